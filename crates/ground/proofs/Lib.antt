@@ -1,0 +1,4 @@
+pub mod Cases
+pub mod Overlays
+pub mod Powers
+pub mod Tables

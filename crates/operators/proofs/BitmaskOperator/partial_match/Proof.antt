@@ -1,0 +1,18 @@
+-- `BitmaskOperator::partial_match` meets its contract. Assumes nothing.
+use borrow.Author.Needs.{needs}
+use Rattle.operators.proofs.BitmaskOperator.partial_match.Statement.{statement}
+use Rattle.operators.proofs.BitmaskOperator.partial_match.Tie as tie
+use Rattle.operators.proofs.BitmaskOperator.partial_match.Reads as reads
+use Rattle.operators.proofs.BitmaskOperator.partial_match.Lts as lts
+use Rattle.operators.proofs.least_width.Reads as least-width-reads
+
+-- src/lib.rt:221:27
+least-width-requires : tie.Need-least-width-requires
+least-width-requires c κs = search needs
+
+-- src/lib.rt:215:5
+returns : tie.Need-returns
+returns c = simp (c .least-width .ensures)
+
+pub partial-match-spec : {M : Type 1} → statement M
+partial-match-spec = tie.close (tie.spec least-width-requires returns)

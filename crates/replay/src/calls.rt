@@ -1,0 +1,145 @@
+// The calls of the stored list, by their names, each put to the proved code and answered in the oracle's words.
+use operators::BitmaskOperator;
+use operators::BitmaskRead;
+use operators::NumericOperator;
+use operators::NumericRead;
+use operators::OctetMade;
+use refusals::Fault;
+
+// A refusal: its number and what it carries.
+fn put_fault(out: &mut [u8], at: usize, fault: Fault) -> usize {
+    let error = fault.error;
+    let end = super::text::put_number(out, at, refusals::number(error) as u64);
+    let count = refusals::carried_count(error);
+    if count == 0 {
+        return end;
+    }
+    let first = super::text::put_number(out, end, refusals::first_carried(error));
+    if count == 1 {
+        return first;
+    }
+    super::text::put_number(out, first, refusals::second_carried(error))
+}
+
+fn put_octet(out: &mut [u8], at: usize, made: OctetMade) -> usize {
+    match made {
+        OctetMade::Octet(octet) => super::text::put_number(out, at, octet as u64),
+        OctetMade::Refused(fault) => put_fault(out, at, fault),
+    }
+}
+
+// What the records of both kinds begin with.
+fn put_head(out: &mut [u8], end: bool, and: bool, width: u8) -> usize {
+    let mut at = super::text::put_number(out, 0, 0);
+    at = super::text::put_flag(out, at, end);
+    at = super::text::put_flag(out, at, and);
+    super::text::put_number(out, at, width as u64)
+}
+
+// A record, and the octet that it makes.
+fn put_numeric(out: &mut [u8], o: NumericOperator) -> usize {
+    let mut at = put_head(out, o.end_of_list, o.and_with_next, o.value_length);
+    at = super::text::put_flag(out, at, o.less_than);
+    at = super::text::put_flag(out, at, o.greater_than);
+    at = super::text::put_flag(out, at, o.equal);
+    at = super::text::put_number(out, at, o.value);
+    put_octet(out, at, o.to_byte())
+}
+
+fn put_bitmask(out: &mut [u8], o: BitmaskOperator) -> usize {
+    let mut at = put_head(out, o.end_of_list, o.and_with_next, o.value_length);
+    at = super::text::put_flag(out, at, o.not);
+    at = super::text::put_flag(out, at, o.match_flag);
+    at = super::text::put_number(out, at, o.bitmask);
+    put_octet(out, at, o.to_byte())
+}
+
+fn octet_in(line: &[u8], field: u8) -> u8 {
+    (super::text::number(line, field) % 256) as u8
+}
+
+fn flag_in(line: &[u8], field: u8) -> bool {
+    super::text::number(line, field) == 1
+}
+
+fn numeric(line: &[u8], out: &mut [u8]) -> usize {
+    match NumericOperator::from_byte_and_value(octet_in(line, 1), super::text::number(line, 2)) {
+        NumericRead::Operator(o) => put_numeric(out, o),
+        NumericRead::Refused(fault) => put_fault(out, 0, fault),
+    }
+}
+
+fn bitmask(line: &[u8], out: &mut [u8]) -> usize {
+    match BitmaskOperator::from_byte_and_value(octet_in(line, 1), super::text::number(line, 2)) {
+        BitmaskRead::Operator(o) => put_bitmask(out, o),
+        BitmaskRead::Refused(fault) => put_fault(out, 0, fault),
+    }
+}
+
+fn numeric_record(line: &[u8], out: &mut [u8]) -> usize {
+    let o = NumericOperator {
+        end_of_list: flag_in(line, 1),
+        and_with_next: flag_in(line, 2),
+        value_length: octet_in(line, 3),
+        less_than: flag_in(line, 4),
+        greater_than: flag_in(line, 5),
+        equal: flag_in(line, 6),
+        value: super::text::number(line, 7),
+    };
+    let at = super::text::put_number(out, 0, 0);
+    put_octet(out, at, o.to_byte())
+}
+
+fn bitmask_record(line: &[u8], out: &mut [u8]) -> usize {
+    let o = BitmaskOperator {
+        end_of_list: flag_in(line, 1),
+        and_with_next: flag_in(line, 2),
+        value_length: octet_in(line, 3),
+        not: flag_in(line, 4),
+        match_flag: flag_in(line, 5),
+        bitmask: super::text::number(line, 6),
+    };
+    let at = super::text::put_number(out, 0, 0);
+    put_octet(out, at, o.to_byte())
+}
+
+// The proved code's answer to a line's request; nothing for a call that it does not know.
+fn answer(line: &[u8], out: &mut [u8]) -> usize {
+    if super::text::is(line, b"numeric") {
+        return numeric(line, out);
+    }
+    if super::text::is(line, b"bitmask") {
+        return bitmask(line, out);
+    }
+    if super::text::is(line, b"numeric_record") {
+        return numeric_record(line, out);
+    }
+    if super::text::is(line, b"bitmask_record") {
+        return bitmask_record(line, out);
+    }
+    let value = super::text::number(line, 1);
+    if super::text::is(line, b"equal_to") {
+        return put_numeric(out, NumericOperator::equal_to(value));
+    }
+    if super::text::is(line, b"greater_than_or_equal") {
+        return put_numeric(out, NumericOperator::greater_than_or_equal(value));
+    }
+    if super::text::is(line, b"exact_match") {
+        return put_bitmask(out, BitmaskOperator::exact_match(value));
+    }
+    if super::text::is(line, b"partial_match") {
+        return put_bitmask(out, BitmaskOperator::partial_match(value));
+    }
+    0
+}
+
+// Whether a line's answer is that of the proved code.
+pub fn agrees(line: &[u8]) -> bool {
+    let sign = super::text::find(line, 0, b'=');
+    if line.len() <= sign {
+        return false;
+    }
+    let mut out = [0u8; 128];
+    let n = answer(&line[..sign], &mut out);
+    super::text::ends_in(line, sign + 1, &out, n)
+}

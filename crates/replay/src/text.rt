@@ -1,0 +1,134 @@
+// The text of a line: fields with one blank between them, numbers in upper-case hex. Every function takes any octets: what is not there
+// reads as 0, and what has no room is not written, so that such a line differs.
+
+// The first place from `from` on that holds an octet, or the end.
+pub fn find(s: &[u8], from: usize, octet: u8) -> usize {
+    let mut i = from;
+    while i < s.len() {
+        if s[i] == octet {
+            return i;
+        }
+        i += 1;
+    }
+    s.len()
+}
+
+// Whether a line's first field is this name.
+pub fn is(s: &[u8], name: &[u8]) -> bool {
+    if find(s, 0, b' ') != name.len() {
+        return false;
+    }
+    let mut i = 0;
+    while i < name.len() {
+        if s.len() <= i {
+            return false;
+        }
+        if s[i] != name[i] {
+            return false;
+        }
+        i += 1;
+    }
+    true
+}
+
+// The number of a hex digit; 0 for any other octet.
+fn digit(octet: u8) -> u64 {
+    if octet < b'0' {
+        return 0;
+    }
+    if octet <= b'9' {
+        return (octet - b'0') as u64;
+    }
+    if octet < b'A' {
+        return 0;
+    }
+    if octet <= b'F' {
+        return (octet - b'A') as u64 + 10;
+    }
+    0
+}
+
+// The number at a place, up to the next blank or the end; its last 16 digits count.
+fn number_at(s: &[u8], from: usize) -> u64 {
+    let mut v: u64 = 0;
+    let mut i = from;
+    while i < s.len() {
+        let octet = s[i];
+        if octet == b' ' {
+            return v;
+        }
+        v = v % 0x1000_0000_0000_0000 * 16 + digit(octet) % 16;
+        i += 1;
+    }
+    v
+}
+
+// The number in the field of a place, the name being field 0.
+pub fn number(s: &[u8], field: u8) -> u64 {
+    let mut at: usize = 0;
+    let mut k: u8 = 0;
+    while k < field {
+        let blank = find(s, at, b' ');
+        if s.len() <= blank {
+            return 0;
+        }
+        at = blank + 1;
+        k += 1;
+    }
+    number_at(s, at)
+}
+
+fn put(out: &mut [u8], at: usize, octet: u8) -> usize {
+    if at < out.len() {
+        out[at] = octet;
+        return at + 1;
+    }
+    at
+}
+
+fn hex_digit(d: u64) -> u8 {
+    let n = (d % 16) as u8;
+    if n < 10 { n + b'0' } else { n + 55 }
+}
+
+// A blank and a number, from a place on. Answers the place after it.
+pub fn put_number(out: &mut [u8], at: usize, number: u64) -> usize {
+    let mut end = put(out, at, b' ');
+    let mut left: u32 = 64;
+    while 4 < left {
+        left -= 4;
+        if 0 < number >> left {
+            end = put(out, end, hex_digit(number >> left));
+        }
+    }
+    put(out, end, hex_digit(number))
+}
+
+pub fn put_flag(out: &mut [u8], at: usize, set: bool) -> usize {
+    if set {
+        put_number(out, at, 1)
+    } else {
+        put_number(out, at, 0)
+    }
+}
+
+// Whether a line goes on from a place to its end as the first n octets say.
+pub fn ends_in(s: &[u8], from: usize, octets: &[u8], n: usize) -> bool {
+    if octets.len() < n {
+        return false;
+    }
+    if s.len() < from {
+        return false;
+    }
+    if s.len() - from != n {
+        return false;
+    }
+    let mut i = 0;
+    while i < n {
+        if s[from + i] != octets[i] {
+            return false;
+        }
+        i += 1;
+    }
+    true
+}
