@@ -6,11 +6,12 @@ use mathlib.Core.List.{List, [], _∷_}
 use mathlib.Core.Bool.{Bool, true, false, _||_}
 use native.Mathlib.Nat.{div-one, div-div-eq-div-mul}
 use native.Mathlib.Omega.{arith}
-use lib.Dec.{eqb}
+use lib.Dec.{T, eqb, eqb→eq}
 use lib.ListN.{getD}
 use borrow.Author.Tests.{eqb-true, eqb-false, eq-eqb, ne-eqb}
 use Rattle.ground.specs.Answers.{Answer, accepts, refuses}
 use Rattle.ground.proofs.Cases.{by-test}
+use Rattle.ground.proofs.Tables.{both, both-left, both-right, at}
 use Rattle.octets.specs.Widths.{widths, widthOf, codeIn}
 use Rattle.operators.specs.declared.NumericOperator.{NumericOperator}
 use Rattle.operators.specs.declared.BitmaskOperator.{BitmaskOperator}
@@ -62,14 +63,20 @@ coded w h =
     let y : _≡_ {A = ℕ} 0 1 = cc in
     absurd (omega arith)))))
 
--- every code has a proper width
+-- every code of the table has a proper width, whose code it is
+proper : ℕ → ℕ → Bool
+proper c w = both (isWidth w) (eqb (codePart w) (16 * c))
+
+test-true : (t : Bool) → T t → t ≡ true
+test-true true h = refl
+test-true false h = absurd h
+
 width-coded : (c : ℕ) → c < 4 → (isWidth (getD widths c 0) ≡ true) × (codePart (getD widths c 0) ≡ 16 * c)
-unfolding isWidth codePart
-width-coded zero h = (refl, refl)
-width-coded (suc zero) h = (refl, refl)
-width-coded (suc (suc zero)) h = (refl, refl)
-width-coded (suc (suc (suc zero))) h = (refl, refl)
-width-coded (suc (suc (suc (suc c)))) h = absurd (omega arith)
+unfolding proper isWidth codePart
+width-coded c h =
+    let w = getD widths c 0 in
+    let t = at proper widths tt c h in
+    (test-true (isWidth w) (both-left (isWidth w) (eqb (codePart w) (16 * c)) t), eqb→eq (codePart w) (16 * c) (both-right (isWidth w) (eqb (codePart w) (16 * c)) t))
 
 -- four digits of a number below 16
 nibble : (q : ℕ) → q < 16 → 8 * (q / 8 % 2) + 4 * (q / 4 % 2) + q % 4 ≡ q

@@ -1,0 +1,129 @@
+-- `lists::fill` meets its contract: the first operator is stored as the reading records it, the others by `fill_on`. Assumes nothing.
+use Prim.Native.Nat.{_+_, _<_}
+use mathlib.Core.Path.{_∙_, ap}
+use native.Mathlib.Omega.{arith}
+use borrow.Author.Needs.{needs}
+use lib.ListN.{length, length-set}
+use lib.Seq.{length-sets}
+use Rattle.lists.proofs.Turns.{whole-in, whole-by, whole-first, room-first, first-last, first-filling, first-more}
+use Rattle.lists.proofs.fill.Statement.{statement}
+use Rattle.lists.proofs.fill.Tie as tie
+use Rattle.lists.proofs.fill.Reads as reads
+use Rattle.lists.proofs.fill.Lts as lts
+use Rattle.choices.proofs.cleared.Reads as cleared-reads
+use Rattle.choices.proofs.first.Reads as first-reads
+use Rattle.lists.proofs.fill_on.Reads as fill-on-reads
+use Rattle.octets.proofs.read_value.Reads as read-value-reads
+use Rattle.octets.proofs.stride.Reads as stride-reads
+
+shared-slice-read-octet : tie.Need-shared-slice-read-octet
+shared-slice-read-octet c = whole-in _ _ _ _ (whole-first _ _ _ _ (c .before .before .before .before .pre .0)) .0
+
+stride-requires : tie.Need-stride-requires
+stride-requires c κs = search needs
+
+abbrev start-of : tie.After-stride → tie.Start
+start-of c = c .before .before .before .before .before
+
+-- the first operator is whole
+here : (c : tie.After-stride) → start-of c .args .at + c .stride .result < length (start-of c .args .s .now)
+here c = whole-by _ _ _ _ (whole-first _ _ _ _ (start-of c .pre .0)) (c .stride .ensures)
+
+add-read-value : tie.Need-add-read-value
+add-read-value c = omega (arith, here c, start-of c .good)
+
+read-value-requires : tie.Need-read-value-requires
+read-value-requires c κs = (omega arith, omega (arith, here c, c .stride .ensures))
+
+mul-values : tie.Need-mul-values
+mul-values c = search needs
+
+-- there is room for it
+has-room : (c : tie.Start) → (c .args .start < length (c .args .values .now)) × (c .args .start < length (c .args .octets .now))
+has-room c = room-first _ _ _ _ (c .pre .0) _ (c .args .values .now) (c .args .octets .now) (c .pre .1)
+
+slice-write-values : tie.Need-slice-write-values
+slice-write-values c = has-room (start-of (c .before)) .0
+
+cleared-requires : tie.Need-cleared-requires
+cleared-requires c κs = search needs
+
+first-requires : tie.Need-first-requires
+first-requires c κs = search needs
+
+slice-write-octets : tie.Need-slice-write-octets
+slice-write-octets c = has-room (start-of (c .before .before .before)) .1
+
+add-next : tie.Need-add-next
+add-next c = let e = c .before .before .before in omega (arith, here e, start-of e .good)
+
+add-next-2 : tie.Need-add-next-2
+add-next-2 c = let e = c .before .before .before in omega (arith, here e, start-of e .good)
+
+same-length : tie.Need-same-length
+same-length c = search needs
+
+same-length-2 : tie.Need-same-length-2
+same-length-2 c = search needs
+
+returns : tie.Need-returns
+returns c =
+    let f = c .before in
+    let v = f .before .before in
+    let e = v .before in
+    let g = start-of e in
+    let w = e .stride .ensures in
+    first-last _ _ _ _ (g .pre .0) _ (g .args .values .now) (g .args .octets .now) (g .pre .1) w (v .read-value .ensures) (f .before .cleared .ensures) (f .first .ensures) (c .if1 .taken)
+
+fill-on-requires : tie.Need-fill-on-requires
+fill-on-requires c κs =
+    let n = c .before .before in
+    let f = n .before in
+    let v = f .before .before in
+    let e = v .before in
+    let g = start-of e in
+    let w = e .stride .ensures in (
+      first-filling _ _ _ _ (g .pre .0) _ (g .args .values .now) (g .args .octets .now) (g .pre .1) w (v .read-value .ensures) (f .before .cleared .ensures) (f .first .ensures) (n .if1 .left),
+      omega arith,
+    )
+
+same-length-3 : tie.Need-same-length-3
+same-length-3 c = ap length (c .before .before .before .before .fill-on .ensures .0) ∙ simp (length-sets, length-set)
+
+same-length-4 : tie.Need-same-length-4
+same-length-4 c = ap length (c .before .before .before .before .fill-on .ensures .1 .0) ∙ simp (length-sets, length-set)
+
+returns-2 : tie.Need-returns-2
+returns-2 c =
+    let r = c .before .before .before .before in
+    let n = r .before .before .before in
+    let f = n .before in
+    let v = f .before .before in
+    let e = v .before in
+    let g = start-of e in
+    let w = e .stride .ensures in
+    let h = r .fill-on .ensures in
+    first-more _ _ _ _ (g .pre .0) _ (g .args .values .now) (g .args .octets .now) (g .pre .1) w (v .read-value .ensures) (f .before .cleared .ensures) (f .first .ensures) (n .if1 .left) (h .0) (h .1 .0) (h .1 .1)
+
+pub fill-spec : {M : Type 1} → statement M
+fill-spec =
+    tie.close
+    (tie.spec
+    shared-slice-read-octet
+    stride-requires
+    add-read-value
+    read-value-requires
+    mul-values
+    slice-write-values
+    cleared-requires
+    first-requires
+    slice-write-octets
+    add-next
+    add-next-2
+    same-length
+    same-length-2
+    returns
+    fill-on-requires
+    same-length-3
+    same-length-4
+    returns-2)

@@ -1,0 +1,128 @@
+-- `lists::fill_run` meets its contract, which is the loop's invariant too. Assumes nothing.
+use Prim.Native.Nat.{_+_, _-_, _<_}
+use mathlib.Core.Path.{_≡_, sym, _∙_}
+use native.Mathlib.Omega.{arith}
+use borrow.Author.Needs.{needs, scaled-fits}
+use lib.ListN.{length, getD}
+use Rattle.octets.specs.Widths.{widthOf}
+use Rattle.lists.proofs.Runs.{width-by}
+use Rattle.lists.specs.Runs.{Filled}
+use Rattle.lists.proofs.Turns.{whole-in, whole-by, filled-first, room, more}
+use Rattle.lists.proofs.fill_run.Statement.{statement}
+use Rattle.lists.proofs.fill_run.Tie as tie
+use Rattle.lists.proofs.fill_run.Reads as reads
+use Rattle.lists.proofs.fill_run.Lts as lts
+use Rattle.octets.proofs.read_value.Reads as read-value-reads
+
+abbrev Inv-loop : tie.InvT-loop
+Inv-loop s values₀ octets₀ start at n code w kind i₀ c₀ values octets i c = Filled kind s start values₀ octets₀ at n values octets i c
+
+abbrev μ-loop : tie.MeasureT-loop
+μ-loop s values₀ octets₀ start at n code w kind i₀ c₀ values octets i c = length s - i
+
+loop-holds : tie.Need-loop-holds Inv-loop μ-loop
+loop-holds c =
+    let f = c .before .before .before .pre .0 in
+    filled-first f (omega (arith, whole-in _ _ _ _ (f .whole)))
+
+shared-slice-read-octet : tie.Need-shared-slice-read-octet Inv-loop μ-loop
+shared-slice-read-octet c = whole-in _ _ _ _ (c .before .loop .inv .filling .whole) .0
+
+same-length : tie.Need-same-length Inv-loop μ-loop
+same-length c = c .before .before .loop .inv .long-values
+
+same-length-2 : tie.Need-same-length-2 Inv-loop μ-loop
+same-length-2 c = c .before .before .loop .inv .long-octets
+
+returns : tie.Need-returns Inv-loop μ-loop
+returns c = c .before .before .loop .inv
+
+same-length-3 : tie.Need-same-length-3 Inv-loop μ-loop
+same-length-3 c = c .before .before .before .loop .inv .long-values
+
+same-length-4 : tie.Need-same-length-4 Inv-loop μ-loop
+same-length-4 c = c .before .before .before .loop .inv .long-octets
+
+returns-2 : tie.Need-returns-2 Inv-loop μ-loop
+returns-2 c = c .before .before .before .loop .inv
+
+-- the turn's begin, and the function's start before that
+abbrev turn-of : tie.Else2 Inv-loop μ-loop → tie.At-loop Inv-loop μ-loop
+turn-of c = c .before .before .before
+
+abbrev start-of : tie.Else2 Inv-loop μ-loop → tie.Start Inv-loop μ-loop
+start-of c = turn-of c .before .before .before .before
+
+-- the operator at the place has the run's width, and is whole
+wide : (c : tie.Else2 Inv-loop μ-loop) → start-of c .args .w ≡ widthOf (getD (start-of c .args .s .now) (turn-of c .loop .i) 0)
+wide c = width-by _ (start-of c .pre .1 .1) (sym (c .if2 .left))
+
+here : (c : tie.Else2 Inv-loop μ-loop) → turn-of c .loop .i + start-of c .args .w < length (start-of c .args .s .now)
+here c = whole-by _ _ _ _ (turn-of c .loop .inv .filling .whole) (wide c)
+
+add-p : tie.Need-add-p Inv-loop μ-loop
+add-p c = omega (arith, room (turn-of c .loop .inv), start-of c .good)
+
+add-read-value : tie.Need-add-read-value Inv-loop μ-loop
+add-read-value c = omega (arith, here c, start-of c .good)
+
+read-value-requires : tie.Need-read-value-requires Inv-loop μ-loop
+read-value-requires c κs = (start-of c .pre .1 .0, omega (arith, here c, start-of c .pre .1 .1))
+
+mul-values : tie.Need-mul-values Inv-loop μ-loop
+mul-values c =
+    let h = turn-of (c .before) .loop .inv in
+    scaled-fits _ _ 8 (room h .0) (rw (h .long-values) (start-of (c .before) .good .1 .0 .1))
+
+slice-write-values : tie.Need-slice-write-values Inv-loop μ-loop
+slice-write-values c = room (turn-of (c .before) .loop .inv) .0
+
+cleared-requires : tie.Need-cleared-requires Inv-loop μ-loop
+cleared-requires c κs = search needs
+
+slice-write-octets : tie.Need-slice-write-octets Inv-loop μ-loop
+slice-write-octets c = room (turn-of (c .before .before) .loop .inv) .1
+
+add-c : tie.Need-add-c Inv-loop μ-loop
+add-c c = let e = c .before .before in omega (arith, turn-of e .loop .inv .filling .place, here e, start-of e .good)
+
+add-i : tie.Need-add-i Inv-loop μ-loop
+add-i c = let e = c .before .before in omega (arith, here e, start-of e .good)
+
+add-i-2 : tie.Need-add-i-2 Inv-loop μ-loop
+add-i-2 c = let e = c .before .before in omega (arith, here e, start-of e .good)
+
+loop-less : tie.Need-loop-less Inv-loop μ-loop
+loop-less c = omega (arith, here (c .before .before))
+
+loop-again : tie.Need-loop-again Inv-loop μ-loop
+loop-again c =
+    let e = c .before .before in
+    rw (c .cleared .ensures) (more (turn-of e .loop .inv) (wide e) (c .before .read-value .ensures ∙ rw (e .if2 .left)) (e .before .if1 .left))
+
+pub fill-run-spec : {M : Type 1} → statement M
+fill-run-spec =
+    tie.close
+    (tie.spec
+    Inv-loop
+    μ-loop
+    loop-holds
+    shared-slice-read-octet
+    same-length
+    same-length-2
+    returns
+    same-length-3
+    same-length-4
+    returns-2
+    add-p
+    add-read-value
+    read-value-requires
+    mul-values
+    slice-write-values
+    cleared-requires
+    slice-write-octets
+    add-c
+    add-i
+    add-i-2
+    loop-less
+    loop-again)

@@ -1,0 +1,73 @@
+-- `lists::measure_run` meets its contract, which is the loop's invariant too. Assumes nothing.
+use Prim.Native.Nat.{_-_}
+use mathlib.Core.Path.{refl}
+use native.Mathlib.Omega.{arith}
+use lib.ListN.{length}
+use Rattle.octets.proofs.Widths.{width-range}
+use Rattle.lists.specs.Runs.{Ran}
+use Rattle.lists.proofs.Runs.{width-by, on-more}
+use Rattle.lists.proofs.measure_run.Statement.{statement}
+use Rattle.lists.proofs.measure_run.Tie as tie
+use Rattle.lists.proofs.measure_run.Reads as reads
+use Rattle.lists.proofs.measure_run.Lts as lts
+
+abbrev Inv-loop : tie.InvT-loop
+Inv-loop s at n code w bound i₀ c₀ i c = Ran bound s at n i c
+
+abbrev μ-loop : tie.MeasureT-loop
+μ-loop s at n code w bound i₀ c₀ i c = length s - i
+
+loop-holds : tie.Need-loop-holds Inv-loop μ-loop
+loop-holds c = record { same = λ r k is-bound. refl; on = omega arith; place = c .pre .0 .place; within = c .pre .0 .within }
+
+add-last : tie.Need-add-last Inv-loop μ-loop
+add-last c =
+    let g = c .before in
+    omega (arith, g .good, g .pre .1 .1, width-range _ (g .pre .1 .0), c .loop .inv .within)
+
+returns : tie.Need-returns Inv-loop μ-loop
+returns c = c .before .loop .inv
+
+shared-slice-read-octet : tie.Need-shared-slice-read-octet Inv-loop μ-loop
+shared-slice-read-octet c = omega arith
+
+returns-2 : tie.Need-returns-2 Inv-loop μ-loop
+returns-2 c = c .before .before .before .loop .inv
+
+returns-3 : tie.Need-returns-3 Inv-loop μ-loop
+returns-3 c = c .before .before .before .before .loop .inv
+
+returns-4 : tie.Need-returns-4 Inv-loop μ-loop
+returns-4 c = c .before .before .before .before .before .loop .inv
+
+add-c : tie.Need-add-c Inv-loop μ-loop
+add-c c = let l = c .before .before .before .before .before in omega (arith, l .loop .inv .place, l .before .good)
+
+add-i : tie.Need-add-i Inv-loop μ-loop
+add-i c = let l = c .before .before .before .before .before in omega (arith, l .before .good)
+
+loop-less : tie.Need-loop-less Inv-loop μ-loop
+loop-less c = omega arith
+
+loop-again : tie.Need-loop-again Inv-loop μ-loop
+loop-again c =
+    let l = c .before .before .before .before .before in
+    on-more (l .loop .inv) (width-by _ (l .before .pre .1 .1) (c .before .if3 .left)) (omega arith) (omega arith) (omega arith)
+
+pub measure-run-spec : {M : Type 1} → statement M
+measure-run-spec =
+    tie.close
+    (tie.spec
+    Inv-loop
+    μ-loop
+    loop-holds
+    add-last
+    returns
+    shared-slice-read-octet
+    returns-2
+    returns-3
+    returns-4
+    add-c
+    add-i
+    loop-less
+    loop-again)
