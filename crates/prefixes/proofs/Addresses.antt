@@ -1,0 +1,77 @@
+-- Addresses from the number that a prefix's octets spell: they fit, and moving the halves moves the number. Assumes nothing.
+use mathlib.Core.Path.{_≡_, sym, ap, ap₂, _∙_, subst}
+use mathlib.Core.Bool.{Bool, _&&_, and-true}
+use Prim.Native.Nat.{ℕ, _+_, _-_, _*_, _/_, _%_, _^_, _≤_, _<_}
+use native.Mathlib.Nat.{lt-of-lt-of-le, mod-eq-of-lt, div-eq-of-lt, zero-mul}
+use native.Mathlib.Omega.{arith}
+use lib.Dec.{eqb}
+use lib.Pow.{pow-mono, shr-lt, shl-lt}
+use borrow.Author.Tests.{eq-eqb}
+use Rattle.wide.specs.Numbers.{wide, num, wideOf}
+use Rattle.wide.specs.declared.Wide.{Wide}
+use Rattle.wide.proofs.Halves.{num-wideOf}
+use Rattle.octets.specs.Addresses.{firstBits}
+use Rattle.prefixes.specs.Prefixes.{octetsOf, frontAddress, offsetAddress}
+use Rattle.prefixes.specs.Forms.{clean}
+
+pub front-lt : (width len v : ℕ) → 8 * octetsOf len ≤ width → v < 2 ^ (8 * octetsOf len) → frontAddress width len v < 2 ^ width
+front-lt width len v p b =
+    let e : 8 * octetsOf len + (width - 8 * octetsOf len) ≡ width = omega arith in
+    subst (λ (j : ℕ). frontAddress width len v < 2 ^ j) e (shl-lt (8 * octetsOf len) (width - 8 * octetsOf len) b)
+
+-- with an offset no bit before it is set, either
+pub offset-lt : (len off v : ℕ) → off ≤ len → len ≤ 128 → v < 2 ^ (8 * octetsOf (len - off)) → offsetAddress len off v < 2 ^ (128 - off)
+offset-lt len off v p q b =
+    let n = len - off in
+    let k = 8 * octetsOf (len - off) in
+    let e : n + (k - n) ≡ k = omega arith in
+    let f : n + (128 - len) ≡ 128 - off = omega arith in
+    subst (λ (j : ℕ). offsetAddress len off v < 2 ^ j) f (shl-lt n (128 - len) (shr-lt n (k - n) (subst (λ (j : ℕ). v < 2 ^ j) (sym e) b)))
+
+-- the octets of an IPv4 address stand in the lower half, and moved up to their place they stay below 2 ^ 32
+module _ (h l len k : ℕ) (p : len ≤ 32) (e : k ≡ octetsOf len) (b : wide h l < 2 ^ (8 * octetsOf len)) where
+  front-word : (l * 2 ^ (32 - 8 * k) ≡ frontAddress 32 len (wide h l)) × (l * 2 ^ (32 - 8 * k) < 2 ^ 32)
+  front-word =
+      let m : 8 * octetsOf len ≤ 32 = omega arith in
+      let q : wide h l < 2 ^ 32 = lt-of-lt-of-le b (pow-mono m) in
+      let r : l ≡ wide h l = omega arith in
+      let s = ap₂ (λ (x j : ℕ). x * 2 ^ (32 - 8 * j)) r e in
+      (s, subst (λ (n : ℕ). n < 2 ^ 32) (sym s) (front-lt 32 len (wide h l) m b))
+
+  uncut : l * 2 ^ (32 - 8 * k) % 2 ^ 64 ≡ l * 2 ^ (32 - 8 * k)
+  uncut = let q = front-word .1 in mod-eq-of-lt (omega arith)
+
+  pub front-ipv4 : l * 2 ^ (32 - 8 * k) % 2 ^ 64 ≡ frontAddress 32 len (wide h l)
+  front-ipv4 = uncut ∙ front-word .0
+
+  pub front-ipv4-lt : l * 2 ^ (32 - 8 * k) % 2 ^ 64 < 2 ^ 32
+  front-ipv4-lt = subst (λ (n : ℕ). n < 2 ^ 32) (sym uncut) (front-word .1)
+
+-- no cut at 128 digits shows
+module _ (v w : Wide) (len k : ℕ) (q : len ≤ 128) where
+  pub front-ipv6 : k ≡ octetsOf len → num v < 2 ^ (8 * octetsOf len) → w ≡ wideOf (num v * 2 ^ (128 - 8 * k) % 2 ^ 128) → w ≡ wideOf (frontAddress 128 len (num v))
+  front-ipv6 e b r =
+      let g : 8 * octetsOf len ≤ 128 = omega arith in
+      r ∙ ap (λ (j : ℕ). wideOf (num v * 2 ^ (128 - 8 * j) % 2 ^ 128)) e ∙ ap wideOf (mod-eq-of-lt (front-lt 128 len (num v) g b))
+
+  pub offset-ipv6 : (off : ℕ) → off ≤ len → k ≡ octetsOf (len - off) → num v < 2 ^ (8 * octetsOf (len - off))
+      → w ≡ wideOf (num v / 2 ^ (8 * k - (len - off)) * 2 ^ (128 - len) % 2 ^ 128) → w ≡ wideOf (offsetAddress len off (num v))
+  offset-ipv6 off p e b r =
+      let g : 128 - off ≤ 128 = omega arith in
+      r ∙ ap (λ (j : ℕ). wideOf (num v / 2 ^ (8 * j - (len - off)) * 2 ^ (128 - len) % 2 ^ 128)) e
+      ∙ ap wideOf (mod-eq-of-lt (lt-of-lt-of-le (offset-lt len off (num v) p q b) (pow-mono g)))
+
+-- an address that begins after n bits has none set among them
+pub none-first : (width n a : ℕ) → a < 2 ^ (width - n) → firstBits width n a ≡ 0
+none-first width n a b = ap (λ (x : ℕ). x * 2 ^ (width - n)) (div-eq-of-lt b) ∙ zero-mul (2 ^ (width - n))
+
+-- so within its width it is clean if it is its first bits
+pub none-before : (width len a : ℕ) → a < 2 ^ width → eqb (firstBits width len a) a ≡ clean width len 0 a
+none-before width len a b =
+    let w : width - 0 ≡ width = omega arith in
+    let z : firstBits width 0 a ≡ 0 = none-first width 0 a (subst (λ (j : ℕ). a < 2 ^ j) (sym w) b) in
+    sym (ap (λ (t : Bool). eqb (firstBits width len a) a && t) (eq-eqb _ _ z) ∙ and-true (eqb (firstBits width len a) a))
+
+-- a test of what was kept in halves
+pub kept-test : (v w : Wide) (n b : ℕ) → v ≡ wideOf (firstBits 128 n (num w)) → eqb (num v) b ≡ eqb (firstBits 128 n (num w)) b
+kept-test v w n b e = ap (λ (x : ℕ). eqb x b) (ap num e ∙ num-wideOf (firstBits 128 n (num w)))

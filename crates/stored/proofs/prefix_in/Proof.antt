@@ -1,0 +1,42 @@
+-- `stored::prefix_in` meets its contract. The test is the definition's, since the prefix and its words are. Assumes nothing.
+use mathlib.Core.Path.{sym, ap, _∙_}
+use mathlib.Core.Bool.{true, false}
+use borrow.Author.Needs.{needs}
+use Rattle.stored.specs.declared.Part.the-variants.{Is}
+use Rattle.stored.specs.Stored.{sameQuad}
+use Rattle.stored.proofs.Words.{part-prefix}
+use Rattle.stored.proofs.prefix_in.Statement.{statement}
+use Rattle.stored.proofs.prefix_in.Tie as tie
+
+network-of-requires : tie.Need-network-of-requires
+network-of-requires c κs = search needs
+
+prefix-quad-requires : tie.Need-prefix-quad-requires
+prefix-quad-requires c κs = search needs
+
+same-quad-requires : tie.Need-same-quad-requires
+same-quad-requires c κs = search needs
+
+prefix-of-requires : tie.Need-prefix-of-requires
+prefix-of-requires c κs = search needs
+
+returns : tie.Need-returns
+returns c = let b = c .before .before .before .before .before .before in
+    let a = b .args in
+    ap Is (c .prefix-of .ensures) ∙ part-prefix (a .q) true (a .kind) (b .pre .0) (b .pre .1) (b .pre .2) _ (c .before .before .before .before .network-of .ensures) (sym (c .before .before .same-quad .ensures ∙ ap (λ x. sameQuad x (a .q)) (c .before .before .before .prefix-quad .ensures)) ∙ c .before .if1 .taken)
+
+returns-2 : tie.Need-returns-2
+returns-2 c = let b = c .before .before .before .before .before in
+    let a = b .args in
+    part-prefix (a .q) false (a .kind) (b .pre .0) (b .pre .1) (b .pre .2) _ (c .before .before .before .network-of .ensures) (sym (c .before .same-quad .ensures ∙ ap (λ x. sameQuad x (a .q)) (c .before .before .prefix-quad .ensures)) ∙ c .if1 .left)
+
+pub prefix-in-spec : {M : Type 1} → statement M
+prefix-in-spec =
+    tie.close
+    (tie.spec
+    network-of-requires
+    prefix-quad-requires
+    same-quad-requires
+    prefix-of-requires
+    returns
+    returns-2)
