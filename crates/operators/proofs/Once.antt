@@ -1,9 +1,8 @@
--- No second answer meets a contract here: what is told of an answer determines it. Assumes nothing.
-use Prim.Native.Nat.{ℕ}
-use mathlib.Core.Path.{_≡_, refl, ap}
-use native.Mathlib.Omega.{arith}
+-- No second answer meets a contract here: an answer can be read back from what is told of it. Assumes nothing.
+use mathlib.Core.Path.{_≡_, refl, sym, _∙_, ap}
 use Rattle.ground.specs.Answers.{Answer, accepts, refuses}
-use Rattle.refusals.proofs.Once.{refusal-once}
+use Rattle.refusals.proofs.Once.{faultOf, fault-back}
+use Prim.Native.Nat.{ℕ}
 use Rattle.operators.specs.declared.NumericOperator.{NumericOperator}
 use Rattle.operators.specs.declared.BitmaskOperator.{BitmaskOperator}
 use Rattle.operators.specs.declared.NumericRead.{NumericRead}
@@ -14,20 +13,35 @@ use Rattle.operators.specs.declared.OctetMade.{OctetMade}
 use Rattle.operators.specs.declared.OctetMade.the-variants.{Octet, Refused as NoOctet}
 use Rattle.operators.specs.Operators.{numericTold, bitmaskTold, octetTold}
 
+abbrev numericOf : Answer NumericOperator → NumericRead
+numericOf (accepts x) = IsNumeric x
+numericOf (refuses n ns) = NoNumeric (faultOf n ns)
+
+numeric-back : (a : NumericRead) → numericOf (numericTold a) ≡ a
+numeric-back (IsNumeric x) = refl
+numeric-back (NoNumeric f) = ap NoNumeric (fault-back f)
+
 pub numeric-once : (a b : NumericRead) → numericTold a ≡ numericTold b → a ≡ b
-numeric-once (IsNumeric x) (IsNumeric y) h = cc
-numeric-once (IsNumeric x) (NoNumeric g) h = let z : _≡_ {A = ℕ} 0 1 = cc in absurd (omega arith)
-numeric-once (NoNumeric f) (IsNumeric y) h = let z : _≡_ {A = ℕ} 0 1 = cc in absurd (omega arith)
-numeric-once (NoNumeric f) (NoNumeric g) h = ap NoNumeric (refusal-once {A = NumericOperator} f g h)
+numeric-once a b h = sym (numeric-back a) ∙ ap numericOf h ∙ numeric-back b
+
+abbrev bitmaskOf : Answer BitmaskOperator → BitmaskRead
+bitmaskOf (accepts x) = IsBitmask x
+bitmaskOf (refuses n ns) = NoBitmask (faultOf n ns)
+
+bitmask-back : (a : BitmaskRead) → bitmaskOf (bitmaskTold a) ≡ a
+bitmask-back (IsBitmask x) = refl
+bitmask-back (NoBitmask f) = ap NoBitmask (fault-back f)
 
 pub bitmask-once : (a b : BitmaskRead) → bitmaskTold a ≡ bitmaskTold b → a ≡ b
-bitmask-once (IsBitmask x) (IsBitmask y) h = cc
-bitmask-once (IsBitmask x) (NoBitmask g) h = let z : _≡_ {A = ℕ} 0 1 = cc in absurd (omega arith)
-bitmask-once (NoBitmask f) (IsBitmask y) h = let z : _≡_ {A = ℕ} 0 1 = cc in absurd (omega arith)
-bitmask-once (NoBitmask f) (NoBitmask g) h = ap NoBitmask (refusal-once {A = BitmaskOperator} f g h)
+bitmask-once a b h = sym (bitmask-back a) ∙ ap bitmaskOf h ∙ bitmask-back b
+
+abbrev octetOf : Answer ℕ → OctetMade
+octetOf (accepts x) = Octet x
+octetOf (refuses n ns) = NoOctet (faultOf n ns)
+
+octet-back : (a : OctetMade) → octetOf (octetTold a) ≡ a
+octet-back (Octet x) = refl
+octet-back (NoOctet f) = ap NoOctet (fault-back f)
 
 pub octet-once : (a b : OctetMade) → octetTold a ≡ octetTold b → a ≡ b
-octet-once (Octet x) (Octet y) h = cc
-octet-once (Octet x) (NoOctet g) h = let z : _≡_ {A = ℕ} 0 1 = cc in absurd (omega arith)
-octet-once (NoOctet f) (Octet y) h = let z : _≡_ {A = ℕ} 0 1 = cc in absurd (omega arith)
-octet-once (NoOctet f) (NoOctet g) h = ap NoOctet (refusal-once {A = ℕ} f g h)
+octet-once a b h = sym (octet-back a) ∙ ap octetOf h ∙ octet-back b
