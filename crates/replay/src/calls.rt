@@ -1,10 +1,14 @@
 // The calls of the stored list, by their names, each put to the proved code and answered in the oracle's words.
+use choices::Reading;
 use operators::BitmaskOperator;
 use operators::BitmaskRead;
 use operators::NumericOperator;
 use operators::NumericRead;
 use operators::OctetMade;
+use reading::ReadInto;
 use refusals::Fault;
+use rules::FlowSpecComponent;
+use rules::FlowSpecNlri;
 
 // A refusal: its number and what it carries.
 fn put_fault(out: &mut [u8], at: usize, fault: Fault) -> usize {
@@ -103,6 +107,72 @@ fn bitmask_record(line: &[u8], out: &mut [u8]) -> usize {
     put_octet(out, at, o.to_byte())
 }
 
+// An NLRI read by the plain reading, its rule as text.
+fn parse(line: &[u8], out: &mut [u8]) -> usize {
+    let mut input = [0u8; 5000];
+    let mut words = [0u64; 64];
+    let mut values = [0u64; 2100];
+    let mut octets = [0u8; 2100];
+    let n = super::ruletext::read_octets(line, 6, &mut input);
+    put_read(&input, n, &mut words, &mut values, &mut octets, out)
+}
+
+fn put_read(
+    input: &[u8],
+    n: usize,
+    words: &mut [u64],
+    values: &mut [u64],
+    octets: &mut [u8],
+    out: &mut [u8],
+) -> usize {
+    if input.len() < n {
+        return 0;
+    }
+    match reading::read_into(Reading::Plain, &input[..n], words, values, octets) {
+        ReadInto::Read {
+            used: _,
+            operators: _,
+        } => {
+            let end = super::text::put_number(out, 0, 0);
+            let at = super::text::put(out, end, b' ');
+            super::ruletext::put_rule(out, at, words, values, octets)
+        }
+        ReadInto::Refused(fault) => put_fault(out, 0, fault),
+    }
+}
+
+// The rule that a line's text names, by value: none where its words are no record.
+fn rule_in(line: &[u8], from: usize) -> FlowSpecNlri {
+    let mut words = [0u64; 64];
+    let mut values = [0u64; 2100];
+    let mut octets = [0u8; 2100];
+    super::ruletext::read_rule(line, from, &mut words, &mut values, &mut octets);
+    let read = stored::rule_at(&words, 0);
+    read.rule
+}
+
+fn kind(line: &[u8], out: &mut [u8]) -> usize {
+    let rule = rule_in(line, 5);
+    let component = rule.component(0);
+    put_kind(out, component)
+}
+
+fn put_kind(out: &mut [u8], component: FlowSpecComponent) -> usize {
+    let mut at = super::text::put_number(out, 0, 0);
+    at = super::text::put_number(out, at, component.component_type() as u64);
+    at = super::text::put_flag(out, at, component.uses_numeric_operators());
+    super::text::put_flag(out, at, component.uses_bitmask_operators())
+}
+
+fn family(line: &[u8], out: &mut [u8]) -> usize {
+    let rule = rule_in(line, 7);
+    let four = rule.is_ipv4();
+    let six = rule.is_ipv6();
+    let mut at = super::text::put_number(out, 0, 0);
+    at = super::text::put_flag(out, at, four);
+    super::text::put_flag(out, at, six)
+}
+
 // The proved code's answer to a line's request; nothing for a call that it does not know.
 fn answer(line: &[u8], out: &mut [u8]) -> usize {
     if super::text::is(line, b"numeric") {
@@ -117,6 +187,20 @@ fn answer(line: &[u8], out: &mut [u8]) -> usize {
     if super::text::is(line, b"bitmask_record") {
         return bitmask_record(line, out);
     }
+    if super::text::is(line, b"parse") {
+        return parse(line, out);
+    }
+    if super::text::is(line, b"kind") {
+        return kind(line, out);
+    }
+    if super::text::is(line, b"family") {
+        return family(line, out);
+    }
+    constructed(line, out)
+}
+
+// The answers of the constructors.
+fn constructed(line: &[u8], out: &mut [u8]) -> usize {
     let value = super::text::number(line, 1);
     if super::text::is(line, b"equal_to") {
         return put_numeric(out, NumericOperator::equal_to(value));
@@ -135,11 +219,11 @@ fn answer(line: &[u8], out: &mut [u8]) -> usize {
 
 // Whether a line's answer is that of the proved code.
 pub fn agrees(line: &[u8]) -> bool {
-    let sign = super::text::find(line, 0, b'=');
+    let sign = super::text::find_sign(line);
     if line.len() <= sign {
         return false;
     }
-    let mut out = [0u8; 128];
+    let mut out = [0u8; 20000];
     let n = answer(&line[..sign], &mut out);
     super::text::ends_in(line, sign + 1, &out, n)
 }

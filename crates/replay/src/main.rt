@@ -2,6 +2,7 @@
 // request is put to the proved code, and its answer must be the same text. Says how many lines were compared, and prints each that
 // differs. The list is made by tools/store-answers; `oracle --help` (rust/oracle) has the lines' grammar.
 mod calls;
+mod ruletext;
 mod text;
 
 use libc::STDOUT_FILENO;

@@ -13,6 +13,23 @@ pub fn find(s: &[u8], from: usize, octet: u8) -> usize {
     s.len()
 }
 
+// The sign between a request and its answer: the first that stands after a blank. A rule's text has others.
+pub fn find_sign(s: &[u8]) -> usize {
+    let mut blank = false;
+    let mut i = 0;
+    while i < s.len() {
+        let octet = s[i];
+        if blank {
+            if octet == b'=' {
+                return i;
+            }
+        }
+        blank = octet == b' ';
+        i += 1;
+    }
+    s.len()
+}
+
 // Whether a line's first field is this name.
 pub fn is(s: &[u8], name: &[u8]) -> bool {
     if find(s, 0, b' ') != name.len() {
@@ -32,7 +49,7 @@ pub fn is(s: &[u8], name: &[u8]) -> bool {
 }
 
 // The number of a hex digit; 0 for any other octet.
-fn digit(octet: u8) -> u64 {
+pub fn digit(octet: u8) -> u64 {
     if octet < b'0' {
         return 0;
     }
@@ -78,7 +95,7 @@ pub fn number(s: &[u8], field: u8) -> u64 {
     number_at(s, at)
 }
 
-fn put(out: &mut [u8], at: usize, octet: u8) -> usize {
+pub fn put(out: &mut [u8], at: usize, octet: u8) -> usize {
     if at < out.len() {
         out[at] = octet;
         return at + 1;
@@ -86,7 +103,7 @@ fn put(out: &mut [u8], at: usize, octet: u8) -> usize {
     at
 }
 
-fn hex_digit(d: u64) -> u8 {
+pub fn hex_digit(d: u64) -> u8 {
     let n = (d % 16) as u8;
     if n < 10 { n + b'0' } else { n + 55 }
 }

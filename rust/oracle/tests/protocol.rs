@@ -74,7 +74,7 @@ fn what_cannot_be_read_is_answered_bad_and_the_next_line_is_read() {
 fn the_command_line_is_checked() {
     let help = oracle(&["--help"], b"");
     let text = String::from_utf8(help.stdout).unwrap();
-    assert!(help.status.success() && text.contains("operators, rules, all"));
+    assert!(help.status.success() && text.contains("operators, readings, writings, all"));
     for arguments in [&[][..], &["requests"], &["requests", "none"], &["other"]] {
         let output = oracle(arguments, b"");
         assert_eq!(output.status.code(), Some(2), "{arguments:?}");

@@ -14,6 +14,13 @@ fn answered(name: &str) -> Vec<(String, String)> {
     requests.map(answer).collect()
 }
 
+/// The readings and the writings.
+fn both() -> Vec<(String, String)> {
+    let mut lines = answered("readings");
+    lines.extend(answered("writings"));
+    lines
+}
+
 fn count(lines: &[(String, String)], request: &str, answer: &str) -> usize {
     let first = |text: &str| text.split(' ').next().unwrap_or_default().to_string();
     let wanted = |line: &&(String, String)| first(&line.0) == request && first(&line.1) == answer;
@@ -30,7 +37,7 @@ fn operators_are_asked_about_in_full() {
 
 #[test]
 fn rules_meet_every_refusal() {
-    let lines = answered("rules");
+    let lines = both();
     for refusal in ["1", "2", "3", "4", "5"] {
         assert!(count(&lines, "parse", refusal) >= 10, "{refusal}");
     }
@@ -41,7 +48,7 @@ fn rules_meet_every_refusal() {
 
 #[test]
 fn rules_stay_within_what_a_replay_holds() {
-    let lines = answered("rules");
+    let lines = both();
     let lengths = lines.iter().map(|(a, b)| a.len() + b.len() + 4);
     assert!(lengths.clone().max().unwrap() < 16_000);
     assert!(lengths.sum::<usize>() < 1_500_000);
@@ -50,7 +57,7 @@ fn rules_stay_within_what_a_replay_holds() {
 /// Outside these bounds the proved code refuses what the original accepts.
 #[test]
 fn rules_stay_within_what_is_compared() {
-    for request in part("rules").unwrap() {
+    for (request, _) in both() {
         match request.split_once(' ').unwrap() {
             ("parse", "-") => (),
             ("parse", octets) => assert!(octets.len() <= 2 * 4_097),
@@ -64,7 +71,7 @@ fn rules_stay_within_what_is_compared() {
 
 #[test]
 fn no_request_stands_twice() {
-    for name in ["operators", "rules", "all"] {
+    for name in ["operators", "readings", "writings", "all"] {
         let requests = part(name).unwrap();
         let distinct: HashSet<&String> = requests.iter().collect();
         assert_eq!(distinct.len(), requests.len());

@@ -17,17 +17,21 @@ struct Part {
     requests: fn() -> Vec<String>,
 }
 
-/// `rules` waits outside the stored list until there is a proved reader to replay it.
-const PARTS: [Part; 2] = [
+const PARTS: [Part; 3] = [
     Part {
         name: "operators",
         stored: true,
         requests: operators::requests,
     },
     Part {
-        name: "rules",
-        stored: false,
+        name: "readings",
+        stored: true,
         requests: rules::requests,
+    },
+    Part {
+        name: "writings",
+        stored: false,
+        requests: writings::requests,
     },
 ];
 

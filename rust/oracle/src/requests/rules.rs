@@ -1,12 +1,11 @@
-//! Requests about whole rules: readings, writings, and what is asked of a rule's components.
+//! Requests about whole rules: readings, and what is asked of a rule's components.
 
+use super::readings;
 use super::sample::{any_rule, prefix_forms, Random};
-use super::{readings, writings};
 use crate::text;
 
 pub fn requests() -> Vec<String> {
     let mut list = readings::requests();
-    list.extend(writings::requests());
     list.extend(components().map(|one| format!("kind {one}")));
     list.extend(components().map(|one| format!("family {one}")));
     list.extend(families());

@@ -9,11 +9,11 @@ use Rattle.replay.proofs.calls.agrees.Reads as reads
 use Rattle.replay.proofs.calls.agrees.Lts as lts
 use Rattle.replay.proofs.calls.answer.Reads as answer-reads
 use Rattle.replay.proofs.text.ends_in.Reads as ends-in-reads
-use Rattle.replay.proofs.text.find.Reads as find-reads
+use Rattle.replay.proofs.text.find_sign.Reads as find-sign-reads
 
 -- src/calls.rt:136:9
-find-requires : tie.Need-find-requires
-find-requires c κs = search needs
+find-sign-requires : tie.Need-find-sign-requires
+find-sign-requires c κs = search needs
 
 -- src/calls.rt:138:9
 returns : tie.Need-returns
@@ -51,7 +51,7 @@ pub agrees-spec : {M : Type 1} → statement M
 agrees-spec =
     tie.close
     (tie.spec
-    find-requires
+    find-sign-requires
     returns
     slice-aggregate-answer
     slice-aggregate-answer-2

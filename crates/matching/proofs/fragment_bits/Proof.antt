@@ -1,0 +1,14 @@
+-- `matching::fragment_bits` meets its contract. Each arm is the definition's. Assumes nothing.
+use mathlib.Core.Path.{sym}
+use borrow.Author.Tests.{eq-eqb, ne-eqb}
+use Rattle.matching.proofs.fragment_bits.Statement.{statement}
+use Rattle.matching.proofs.fragment_bits.Tie as tie
+
+returns : tie.Need-returns
+returns c = sym (rw (eq-eqb _ _ (c .if1 .taken)))
+
+returns-2 : tie.Need-returns-2
+returns-2 c = sym (rw (ne-eqb _ _ (c .if1 .left)))
+
+pub fragment-bits-spec : {M : Type 1} → statement M
+fragment-bits-spec = tie.close (tie.spec returns returns-2)

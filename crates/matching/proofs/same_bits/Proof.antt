@@ -1,0 +1,49 @@
+-- `matching::same_bits` meets its contract. Both addresses moved alike compare as their bits do: `by-moves`. Assumes nothing.
+use mathlib.Core.Path.{_∙_}
+use native.Mathlib.Omega.{arith}
+use borrow.Author.Needs.{needs}
+use Rattle.wide.proofs.Halves.{wide-lt}
+use Rattle.matching.proofs.Patterns.{by-moves}
+use Rattle.matching.proofs.same_bits.Statement.{statement}
+use Rattle.matching.proofs.same_bits.Tie as tie
+
+less-requires : tie.Need-less-requires
+less-requires c κs = search needs
+
+cast-down : tie.Need-cast-down
+cast-down c = search needs
+
+less-requires-2 : tie.Need-less-requires-2
+less-requires-2 c κs = search needs
+
+less-requires-3 : tie.Need-less-requires-3
+less-requires-3 c κs = search needs
+
+cast-up : tie.Need-cast-up
+cast-up c = search needs
+
+moved-requires : tie.Need-moved-requires
+moved-requires c κs = search needs
+
+moved-requires-2 : tie.Need-moved-requires-2
+moved-requires-2 c κs = search needs
+
+same-requires : tie.Need-same-requires
+same-requires c κs = search needs
+
+returns : tie.Need-returns
+returns c = let l = c .before .before .before in let s = l .before .before .before in let a = s .args in let g = s .good .1 .1 .1 in c .same .ensures ∙ by-moves (a .width) (a .offset) (a .length) _ _ _ _ _ _ _ (wide-lt (a .a .high) (a .a .low) (omega (arith, g .0)) (omega (arith, g .0))) (wide-lt (a .b .high) (a .b .low) (omega (arith, g .1 .0)) (omega (arith, g .1 .0))) (l .before .before .less .ensures) (l .before .less2 .ensures) (l .less3 .ensures) (c .before .before .moved .ensures) (c .before .moved2 .ensures)
+
+pub same-bits-spec : {M : Type 1} → statement M
+same-bits-spec =
+    tie.close
+    (tie.spec
+    less-requires
+    cast-down
+    less-requires-2
+    less-requires-3
+    cast-up
+    moved-requires
+    moved-requires-2
+    same-requires
+    returns)

@@ -1,0 +1,376 @@
+// Ranking: which of two rules of a family precedes (document 01, "Matching and ranking"; RFC 8955, 5.1; RFC 8956, 4).
+//
+// Nothing is written out to be compared: prefixes are compared by the bits that their addresses share, lists operator by operator where they
+// stand in the lent lists, rules component by component where they stand in words. Two rules may have their operators in different lists.
+//
+// The functions with a `requires` are no entry points: whoever ranks rules has tested that they are rules and that their operators are within
+// the lent lists.
+ghost use mathlib.Core.Path.{_≡_};
+ghost use Prim.Native.Nat.{_+_, _≤_, min};
+ghost use lib.ListN.{length};
+ghost use Rattle.wide.specs.Numbers.{num};
+ghost use Rattle.choices.specs.Operators.{op, opsIn, listOctets};
+ghost use Rattle.stored.specs.Stored.{storedAt, partAt};
+ghost use Rattle.ranking.specs.Ranks.{Shares, lower, thenBy, firstOf, front, frontOf, rankPrefix, rankOctets, cutTo, rankOp, contentOf, spanOctets, comparedOf, rankContent, Within, Inside, rankPiece, pieceOf, componentIn, Rankable, rankOf};
+use choices::Kind;
+use rules::FlowSpecComponent;
+use rules::NetworkPrefix;
+use rules::Span;
+use stored::Part;
+use wide::Wide;
+
+// What the first of two is to the second.
+pub enum Order {
+    Precedes,
+    Equal,
+    Follows,
+}
+
+// A prefix as it is ranked, its address at the front of 128 bits.
+pub struct Front {
+    pub offset: u8,
+    pub length: u8,
+    pub address: Wide,
+}
+
+// What is compared of a component.
+pub enum Content {
+    Prefix(NetworkPrefix),
+    List(Span),
+}
+
+pub fn compare_numbers(a: u64, b: u64) -> Order
+    ensures { λ r. ⌜ r ≡ lower a b ⌝ }
+{
+    if a < b {
+        return Order::Precedes;
+    }
+    if b < a {
+        return Order::Follows;
+    }
+    Order::Equal
+}
+
+// The first answer that tells two apart. Where the second costs more than a few steps to find, the code matches instead.
+fn then_by(order: Order, next: Order) -> Order
+    ensures { λ r. ⌜ r ≡ thenBy order next ⌝ }
+{
+    match order {
+        Order::Precedes => Order::Precedes,
+        Order::Equal => next,
+        Order::Follows => Order::Follows,
+    }
+}
+
+// The bits that two words share from the front.
+fn shared_half(a: u64, b: u64) -> u32
+    ensures { λ r. ⌜ Shares 64 a b r ⌝ }
+{
+    u64::leading_zeros(a ^ b)
+}
+
+// The bits that two addresses share from the front.
+pub fn shared_bits(a: Wide, b: Wide) -> u32
+    ensures { λ r. ⌜ Shares 128 (num a) (num b) r ⌝ }
+{
+    if a.high == b.high {
+        64 + shared_half(a.low, b.low)
+    } else {
+        shared_half(a.high, b.high)
+    }
+}
+
+// The first n bits of two addresses: where they are not shared, the addresses are in the order of these bits.
+pub fn compare_bits(a: Wide, b: Wide, n: usize) -> Order
+    ensures { λ r. ⌜ r ≡ lower (firstOf n (num a)) (firstOf n (num b)) ⌝ }
+{
+    if n <= shared_bits(a, b) as usize {
+        return Order::Equal;
+    }
+    if a.high == b.high {
+        return compare_numbers(a.low, b.low);
+    }
+    compare_numbers(a.high, b.high)
+}
+
+fn at_front(offset: u8, length: u8, high: u64, low: u64) -> Front
+    ensures { λ r. ⌜ r ≡ front offset length high low ⌝ }
+{
+    Front {
+        offset: offset,
+        length: length,
+        address: Wide {
+            high: high,
+            low: low,
+        },
+    }
+}
+
+fn front_of(prefix: NetworkPrefix) -> Front
+    ensures { λ r. ⌜ r ≡ frontOf prefix ⌝ }
+{
+    match prefix {
+        NetworkPrefix::Ipv4 { length, address } => at_front(
+            0,
+            length,
+            address as u64 * 4294967296,
+            0,
+        ),
+        NetworkPrefix::Ipv6 { length, high, low } => at_front(0, length, high, low),
+        NetworkPrefix::Ipv4Offset {
+            length,
+            offset,
+            address,
+        } => at_front(offset, length, address as u64 * 4294967296, 0),
+        NetworkPrefix::Ipv6Offset {
+            length,
+            offset,
+            high,
+            low,
+        } => at_front(offset, length, high, low),
+    }
+}
+
+fn shorter(a: usize, b: usize) -> usize
+    ensures { λ r. ⌜ r ≡ min a b ⌝ }
+{
+    if a < b { a } else { b }
+}
+
+pub fn compare_prefixes(a: NetworkPrefix, b: NetworkPrefix) -> Order
+    ensures { λ r. ⌜ r ≡ rankPrefix a b ⌝ }
+{
+    let f = front_of(a);
+    let g = front_of(b);
+    let offset = compare_numbers(f.offset as u64, g.offset as u64);
+    let n = shorter(f.length as usize, g.length as usize);
+    let bits = compare_bits(f.address, g.address, n);
+    let longer = compare_numbers(g.length as u64, f.length as u64);
+    then_by(offset, then_by(bits, longer))
+}
+
+// A value as its width holds it.
+fn cut(octet: u8, value: u64) -> u64
+    ensures { λ r. ⌜ r ≡ cutTo octet value ⌝ }
+{
+    let code = octet / 16 % 4;
+    match code {
+        0 => value % 256,
+        1 => value % 65536,
+        2 => value % 4294967296,
+        _ => value,
+    }
+}
+
+// Equal octets name equal widths, so that the values are in the order of the octets that write them.
+pub fn compare_operators(kind: Kind, octet: u8, value: u64, octet2: u8, value2: u64) -> Order
+    ensures { λ r. ⌜ r ≡ rankOp kind (op octet value) (op octet2 value2) ⌝ }
+{
+    let octets = compare_numbers(
+        choices::cleared(kind, octet) as u64,
+        choices::cleared(kind, octet2) as u64,
+    );
+    then_by(
+        octets,
+        compare_numbers(cut(octet, value), cut(octet2, value2)),
+    )
+}
+
+// The lists at so many places of the lent lists. No entry point.
+pub fn compare_lists(
+    kind: Kind,
+    values: &[u64],
+    octets: &[u8],
+    start: usize,
+    count: usize,
+    values2: &[u64],
+    octets2: &[u8],
+    start2: usize,
+    count2: usize,
+) -> Order
+    requires first { ⌜ (start + count ≤ length (now values)) × (start + count ≤ length (now octets)) ⌝ }
+    requires second { ⌜ (start2 + count2 ≤ length (now values2)) × (start2 + count2 ≤ length (now octets2)) ⌝ }
+    ensures { λ r. ⌜ r ≡ rankOctets (listOctets kind (opsIn (now (values .entry)) (now (octets .entry)) start count)) (listOctets kind (opsIn (now (values2 .entry)) (now (octets2 .entry)) start2 count2)) ⌝ }
+{
+    let both = shorter(count, count2);
+    let mut i: usize = 0;
+    while i < both {
+        let p = start + i;
+        let q = start2 + i;
+        match compare_operators(kind, octets[p], values[p], octets2[q], values2[q]) {
+            Order::Precedes => {
+                return Order::Precedes;
+            }
+            Order::Follows => {
+                return Order::Follows;
+            }
+            Order::Equal => {
+                i += 1;
+            }
+        }
+    }
+    compare_numbers(count2 as u64, count as u64)
+}
+
+fn content_of(component: FlowSpecComponent) -> Content
+    ensures { λ r. ⌜ r ≡ contentOf component ⌝ }
+{
+    match component {
+        FlowSpecComponent::Nothing => Content::List(Span { start: 0, count: 0 }),
+        FlowSpecComponent::DestinationPrefix(prefix) => Content::Prefix(prefix),
+        FlowSpecComponent::SourcePrefix(prefix) => Content::Prefix(prefix),
+        FlowSpecComponent::IpProtocol(span) => Content::List(span),
+        FlowSpecComponent::Port(span) => Content::List(span),
+        FlowSpecComponent::DestinationPort(span) => Content::List(span),
+        FlowSpecComponent::SourcePort(span) => Content::List(span),
+        FlowSpecComponent::IcmpType(span) => Content::List(span),
+        FlowSpecComponent::IcmpCode(span) => Content::List(span),
+        FlowSpecComponent::TcpFlags(span) => Content::List(span),
+        FlowSpecComponent::PacketLength(span) => Content::List(span),
+        FlowSpecComponent::Dscp(span) => Content::List(span),
+        FlowSpecComponent::Fragment(span) => Content::List(span),
+        FlowSpecComponent::FlowLabel(span) => Content::List(span),
+    }
+}
+
+// Two lists, each with the first place of its rule in its lent lists.
+fn compare_spans(
+    kind: Kind,
+    a: Span,
+    first: usize,
+    values: &[u64],
+    octets: &[u8],
+    b: Span,
+    first2: usize,
+    values2: &[u64],
+    octets2: &[u8],
+) -> Order
+    requires first { ⌜ Within (length (now values)) (length (now octets)) first a ⌝ }
+    requires second { ⌜ Within (length (now values2)) (length (now octets2)) first2 b ⌝ }
+    ensures { λ r. ⌜ r ≡ rankOctets (spanOctets (now (values .entry)) (now (octets .entry)) first kind a) (spanOctets (now (values2 .entry)) (now (octets2 .entry)) first2 kind b) ⌝ }
+{
+    compare_lists(
+        kind,
+        values,
+        octets,
+        first + a.start,
+        a.count,
+        values2,
+        octets2,
+        first2 + b.start,
+        b.count,
+    )
+}
+
+fn compare_contents(
+    kind: Kind,
+    a: Content,
+    first: usize,
+    values: &[u64],
+    octets: &[u8],
+    b: Content,
+    first2: usize,
+    values2: &[u64],
+    octets2: &[u8],
+) -> Order
+    requires first { ⌜ Inside (length (now values)) (length (now octets)) first a ⌝ }
+    requires second { ⌜ Inside (length (now values2)) (length (now octets2)) first2 b ⌝ }
+    ensures { λ r. ⌜ r ≡ rankContent (comparedOf (now (values .entry)) (now (octets .entry)) first kind a) (comparedOf (now (values2 .entry)) (now (octets2 .entry)) first2 kind b) ⌝ }
+{
+    match a {
+        Content::Prefix(p) => match b {
+            Content::Prefix(q) => compare_prefixes(p, q),
+            Content::List(_) => Order::Precedes,
+        },
+        Content::List(s) => match b {
+            Content::Prefix(_) => Order::Follows,
+            Content::List(t) => {
+                compare_spans(kind, s, first, values, octets, t, first2, values2, octets2)
+            }
+        },
+    }
+}
+
+fn compare_components(
+    a: FlowSpecComponent,
+    first: usize,
+    values: &[u64],
+    octets: &[u8],
+    b: FlowSpecComponent,
+    first2: usize,
+    values2: &[u64],
+    octets2: &[u8],
+) -> Order
+    requires first { ⌜ Inside (length (now values)) (length (now octets)) first (contentOf a) ⌝ }
+    requires second { ⌜ Inside (length (now values2)) (length (now octets2)) first2 (contentOf b) ⌝ }
+    ensures { λ r. ⌜ r ≡ rankPiece (pieceOf (now (values .entry)) (now (octets .entry)) first a) (pieceOf (now (values2 .entry)) (now (octets2 .entry)) first2 b) ⌝ }
+{
+    let code = a.component_type();
+    let code2 = b.component_type();
+    if code < code2 {
+        return Order::Precedes;
+    }
+    if code2 < code {
+        return Order::Follows;
+    }
+    compare_contents(
+        choices::kind_of(code),
+        content_of(a),
+        first,
+        values,
+        octets,
+        content_of(b),
+        first2,
+        values2,
+        octets2,
+    )
+}
+
+fn component_in(words: &[u64], at: usize) -> FlowSpecComponent
+    requires { ⌜ at + 4 ≤ length (now words) ⌝ }
+    ensures { λ r. ⌜ r ≡ componentIn (partAt (now (words .entry)) at) ⌝ }
+{
+    match stored::component_at(words, at) {
+        Part::Is(component) => component,
+        Part::NoRecord => FlowSpecComponent::Nothing,
+    }
+}
+
+// The rules at two places of lent words, each with its operators. No entry point.
+pub fn compare_rules(
+    words: &[u64],
+    at: usize,
+    values: &[u64],
+    octets: &[u8],
+    words2: &[u64],
+    at2: usize,
+    values2: &[u64],
+    octets2: &[u8],
+) -> Order
+    requires first { ⌜ Rankable (now words) at (now values) (now octets) ⌝ }
+    requires second { ⌜ Rankable (now words2) at2 (now values2) (now octets2) ⌝ }
+    ensures { λ r. ⌜ r ≡ rankOf (now (values .entry)) (now (octets .entry)) (storedAt (now (words .entry)) at) (now (values2 .entry)) (now (octets2 .entry)) (storedAt (now (words2 .entry)) at2) ⌝ }
+{
+    let held = words[at + 52] as usize;
+    let held2 = words2[at2 + 52] as usize;
+    let first = words[at + 54] as usize;
+    let first2 = words2[at2 + 54] as usize;
+    let both = shorter(held, held2);
+    let mut i: usize = 0;
+    while i < both {
+        let a = component_in(words, at + 4 * i);
+        let b = component_in(words2, at2 + 4 * i);
+        match compare_components(a, first, values, octets, b, first2, values2, octets2) {
+            Order::Precedes => {
+                return Order::Precedes;
+            }
+            Order::Follows => {
+                return Order::Follows;
+            }
+            Order::Equal => {
+                i += 1;
+            }
+        }
+    }
+    compare_numbers(held2 as u64, held as u64)
+}

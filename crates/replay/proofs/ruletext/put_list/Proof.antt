@@ -1,0 +1,88 @@
+-- `replay::ruletext::put_list` is safe and ends: what is left falls. Assumes nothing.
+use mathlib.Core.Path.{_≡_}
+use lib.ListN.{length}
+use Prim.Native.Nat.{_-_}
+use native.Mathlib.Omega.{arith}
+use Rattle.replay.proofs.ruletext.put_list.Statement.{statement}
+use Rattle.replay.proofs.ruletext.put_list.Tie as tie
+use Rattle.replay.proofs.ruletext.put_list.Reads as reads
+use Rattle.replay.proofs.ruletext.put_list.Lts as lts
+use Rattle.replay.proofs.ruletext.put_decimal.Reads as put-decimal-reads
+use Rattle.replay.proofs.ruletext.put_if.Reads as put-if-reads
+use Rattle.replay.proofs.ruletext.put_octet.Reads as put-octet-reads
+use Rattle.replay.proofs.ruletext.word_at.Reads as word-at-reads
+use Rattle.replay.proofs.text.put.Reads as put-reads
+use Rattle.std.proofs.num.wrapping_add_u64.Reads as wrapping-add-u64-reads
+
+abbrev Inv-loop : tie.InvT-loop
+Inv-loop out₀ at values octets start count end₀ i₀ out end i = length out ≡ length out₀
+
+abbrev μ-loop : tie.MeasureT-loop
+μ-loop out₀ at values octets start count end₀ i₀ out end i = count - i
+
+-- src/ruletext.rt:378:5
+loop-holds : tie.Need-loop-holds Inv-loop μ-loop
+loop-holds c = omega arith
+
+-- src/ruletext.rt:379:9
+put-if-requires : tie.Need-put-if-requires Inv-loop μ-loop
+put-if-requires c κs = tt
+
+-- src/ruletext.rt:380:21
+wrapping-add-u64-requires : tie.Need-wrapping-add-u64-requires Inv-loop μ-loop
+wrapping-add-u64-requires c κs = tt
+
+-- src/ruletext.rt:381:9
+put-octet-requires : tie.Need-put-octet-requires Inv-loop μ-loop
+put-octet-requires c κs = tt
+
+-- src/ruletext.rt:382:9
+put-requires : tie.Need-put-requires Inv-loop μ-loop
+put-requires c κs = tt
+
+-- src/ruletext.rt:383:37
+word-at-requires : tie.Need-word-at-requires Inv-loop μ-loop
+word-at-requires c κs = tt
+
+-- src/ruletext.rt:383:9
+put-decimal-requires : tie.Need-put-decimal-requires Inv-loop μ-loop
+put-decimal-requires c κs = tt
+
+-- src/ruletext.rt:384:9
+add-i : tie.Need-add-i Inv-loop μ-loop
+add-i c = omega arith
+
+-- src/ruletext.rt:378:5
+loop-less : tie.Need-loop-less Inv-loop μ-loop
+loop-less c = omega arith
+
+-- src/ruletext.rt:378:5
+loop-again : tie.Need-loop-again Inv-loop μ-loop
+loop-again c = omega arith
+
+-- src/ruletext.rt:368:1
+same-length : tie.Need-same-length Inv-loop μ-loop
+same-length c = omega arith
+
+-- src/ruletext.rt:368:1
+returns : tie.Need-returns Inv-loop μ-loop
+returns c = tt
+
+pub put-list-spec : {M : Type 1} → statement M
+put-list-spec =
+    tie.close
+    (tie.spec
+    Inv-loop
+    μ-loop
+    loop-holds
+    put-if-requires
+    wrapping-add-u64-requires
+    put-octet-requires
+    put-requires
+    word-at-requires
+    put-decimal-requires
+    add-i
+    loop-less
+    loop-again
+    same-length
+    returns)

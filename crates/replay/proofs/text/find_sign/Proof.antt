@@ -1,0 +1,56 @@
+-- `replay::text::find_sign` is safe and ends: what is left falls. Assumes nothing.
+use lib.ListN.{length}
+use Prim.Native.Nat.{_-_}
+use native.Mathlib.Omega.{arith}
+use Rattle.replay.proofs.text.find_sign.Statement.{statement}
+use Rattle.replay.proofs.text.find_sign.Tie as tie
+use Rattle.replay.proofs.text.find_sign.Reads as reads
+use Rattle.replay.proofs.text.find_sign.Lts as lts
+
+abbrev Inv-loop : tie.InvT-loop
+Inv-loop s blank₀ i₀ blank i = Unit {0}
+
+abbrev μ-loop : tie.MeasureT-loop
+μ-loop s blank₀ i₀ blank i = length s - i
+
+-- src/text.rt:20:5
+loop-holds : tie.Need-loop-holds Inv-loop μ-loop
+loop-holds c = tt
+
+-- src/text.rt:21:21
+shared-slice-read-octet : tie.Need-shared-slice-read-octet Inv-loop μ-loop
+shared-slice-read-octet c = omega arith
+
+-- src/text.rt:24:17
+returns : tie.Need-returns Inv-loop μ-loop
+returns c = tt
+
+-- src/text.rt:28:9
+add-i : tie.Need-add-i Inv-loop μ-loop
+add-i c = omega arith
+
+-- src/text.rt:20:5
+loop-less : tie.Need-loop-less Inv-loop μ-loop
+loop-less c = omega arith
+
+-- src/text.rt:20:5
+loop-again : tie.Need-loop-again Inv-loop μ-loop
+loop-again c = tt
+
+-- src/text.rt:17:1
+returns-2 : tie.Need-returns-2 Inv-loop μ-loop
+returns-2 c = tt
+
+pub find-sign-spec : {M : Type 1} → statement M
+find-sign-spec =
+    tie.close
+    (tie.spec
+    Inv-loop
+    μ-loop
+    loop-holds
+    shared-slice-read-octet
+    returns
+    add-i
+    loop-less
+    loop-again
+    returns-2)

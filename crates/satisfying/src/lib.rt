@@ -1,0 +1,122 @@
+// Whether a number satisfies a list of operators: truth of one operator, groups joined by AND, and a list of them.
+//
+// The functions with a `requires` are no entry points: they serve a caller that has tested where the operators stand.
+ghost use mathlib.Core.Path.{_≡_};
+ghost use Prim.Native.Nat.{_+_, _≤_};
+ghost use lib.ListN.{length};
+ghost use Rattle.choices.specs.Operators.{op, opsIn};
+ghost use Rattle.satisfying.specs.Lists.{compared, met, masked, truthOf, listMatches, dataMatch};
+use choices::Kind;
+
+// How a list is put to a number: by comparisons or by masks, and in which bits an operator's value counts.
+pub struct Test {
+    pub kind: Kind,
+    pub bits: u64,
+}
+
+// The numbers of a packet that a list is put to: none, one, or two of which either will do.
+pub enum Data {
+    Absent,
+    One(u64),
+    Either(u64, u64),
+}
+
+// 0x04 less, 0x02 greater, 0x01 equal: the OR of those that are set.
+fn compare(octet: u8, value: u64, datum: u64) -> bool
+    ensures { λ r. ⌜ r ≡ compared octet value datum ⌝ }
+{
+    ((octet / 4 % 2 == 1) & (datum < value))
+        | ((octet / 2 % 2 == 1) & (value < datum))
+        | ((octet % 2 == 1) & (datum == value))
+}
+
+// 0x01 match: all bits of the value; else some of them.
+fn meets(octet: u8, value: u64, datum: u64) -> bool
+    ensures { λ r. ⌜ r ≡ met octet value datum ⌝ }
+{
+    let both = datum & value;
+    if octet % 2 == 1 {
+        both == value
+    } else {
+        both != 0
+    }
+}
+
+// 0x02 NOT inverts.
+fn mask(octet: u8, value: u64, datum: u64) -> bool
+    ensures { λ r. ⌜ r ≡ masked octet value datum ⌝ }
+{
+    if octet / 2 % 2 == 1 {
+        !meets(octet, value, datum)
+    } else {
+        meets(octet, value, datum)
+    }
+}
+
+// One operator of a number.
+fn truth(test: Test, octet: u8, value: u64, datum: u64) -> bool
+    ensures { λ r. ⌜ r ≡ truthOf test datum (op octet value) ⌝ }
+{
+    let kind = test.kind;
+    let counted = value & test.bits;
+    match kind {
+        Kind::Numeric => compare(octet, counted, datum),
+        Kind::Bitmask => mask(octet, counted, datum),
+    }
+}
+
+// Whether a number satisfies the list of count operators from a place on. The first group that is true answers. No entry point.
+fn list_matches(
+    test: Test,
+    values: &[u64],
+    octets: &[u8],
+    at: usize,
+    count: usize,
+    datum: u64,
+) -> bool
+    requires values { ⌜ at + count ≤ length (now values) ⌝ }
+    requires octets { ⌜ at + count ≤ length (now octets) ⌝ }
+    ensures { λ r. ⌜ r ≡ listMatches (truthOf test datum) (opsIn (now (values .entry)) (now (octets .entry)) at count) ⌝ }
+{
+    if count == 0 {
+        return false;
+    }
+    let mut group = truth(test, octets[at], values[at], datum);
+    let mut i: usize = 1;
+    while i < count {
+        let place = at + i;
+        let octet = octets[place];
+        let and = octet / 64 % 2 == 1;
+        if !and & group {
+            return true;
+        }
+        group = (!and | group) & truth(test, octet, values[place], datum);
+        i += 1;
+    }
+    group
+}
+
+// Whether one of some numbers does. No entry point.
+pub fn data_match(
+    test: Test,
+    numbers: Data,
+    values: &[u64],
+    octets: &[u8],
+    at: usize,
+    count: usize,
+) -> bool
+    requires values { ⌜ at + count ≤ length (now values) ⌝ }
+    requires octets { ⌜ at + count ≤ length (now octets) ⌝ }
+    ensures { λ r. ⌜ r ≡ dataMatch test numbers (opsIn (now (values .entry)) (now (octets .entry)) at count) ⌝ }
+{
+    match numbers {
+        Data::Absent => false,
+        Data::One(n) => list_matches(test, values, octets, at, count, n),
+        Data::Either(a, b) => {
+            if list_matches(test, values, octets, at, count, a) {
+                return true;
+            }
+            list_matches(test, values, octets, at, count, b)
+        }
+    }
+}

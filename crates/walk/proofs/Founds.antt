@@ -1,0 +1,83 @@
+-- The ways that one component goes, over plain lists: one law for each return of `component_at` and of the functions that find a prefix's
+-- end. Assumes nothing.
+use Prim.Native.Nat.{ℕ, _+_, _-_, _≤_, _<_}
+use mathlib.Core.Path.{_≡_, refl, sym, _∙_, ap}
+use mathlib.Core.List.{List, [], _∷_}
+use borrow.Author.Tests.{le-leb, lt-leb, lt-ltb, le-ltb}
+use lib.ListN.{length, getD}
+use Rattle.ground.specs.Answers.{Answer, accepts, refuses}
+use Rattle.choices.specs.declared.Reading.{Reading}
+use Rattle.choices.specs.declared.Kind.{Kind}
+use Rattle.choices.specs.Choices.{lastType, kindOf}
+use Rattle.rules.specs.declared.NetworkPrefix.{NetworkPrefix}
+use Rattle.prefixes.specs.Prefixes.{PrefixAt, octetsAt}
+use Rattle.lists.specs.declared.Tally.{Tally}
+use Rattle.lists.specs.Lists.{listAt, opsAt, recordedOps}
+use Rattle.lists.proofs.Ends.{list-counts}
+use Rattle.lists.proofs.Records.{recorded-length}
+use Rattle.walk.specs.Walks.{prefixAt, prefixPiece, listPiece, typedAt, componentAt, Sight, sight, seen, ended}
+
+-- the octets of a prefix are there
+pub octets-there : (s : List ℕ) (from K : ℕ) (make : ℕ → NetworkPrefix) (R : Answer PrefixAt) → R ≡ octetsAt s from K make → (k : ℕ) → k ≡ K → k ≤ length s - from
+    → accepts (sight 0 (from + k)) ≡ ended R
+unfolding octetsAt
+octets-there s from K make R is k e l = sym (ap ended is ∙ rw (sym e) (simp (le-ltb _ _ l)))
+
+module _ (r : Reading) (s : List ℕ) (at previous start : ℕ) where
+  pub found-missing : length s ≤ at → componentAt r s at previous start ≡ refuses 1 []
+  unfolding componentAt
+  found-missing h = simp (le-leb _ _ h)
+
+  module _ (h : at < length s) where
+    pub found-order : getD s at 0 ≤ previous → componentAt r s at previous start ≡ refuses 2 (previous ∷ getD s at 0 ∷ [])
+    unfolding componentAt
+    found-order k = simp (lt-leb _ _ h, le-leb _ _ k)
+
+    module _ (k : previous < getD s at 0) where
+      pub found-type : lastType r < getD s at 0 → componentAt r s at previous start ≡ refuses 3 (getD s at 0 ∷ [])
+      unfolding componentAt
+      found-type l = simp (lt-leb _ _ h, lt-leb _ _ k, lt-ltb _ _ l)
+
+      pub found-typed : getD s at 0 ≤ lastType r → componentAt r s at previous start ≡ typedAt r (getD s at 0) s (at + 1) start
+      unfolding componentAt
+      found-typed l = simp (lt-leb _ _ h, lt-leb _ _ k, le-ltb _ _ l)
+
+module _ (r : Reading) (t : ℕ) (s : List ℕ) (at start : ℕ) where
+  pub typed-prefix : t ≤ 2 → typedAt r t s at start ≡ prefixPiece t (prefixAt r s at)
+  unfolding typedAt
+  typed-prefix h = simp (le-leb _ _ h)
+
+  pub typed-list : 2 < t → typedAt r t s at start ≡ listPiece t start (recordedOps r (kindOf t) (opsAt s at)) (listAt r (kindOf t) s at)
+  unfolding typedAt
+  typed-list h = simp (lt-leb _ _ h)
+
+-- what is seen of a prefix and of a list
+pub seen-prefix : (t : ℕ) (a : Answer PrefixAt) → seen (prefixPiece t a) ≡ ended a
+seen-prefix t (accepts p) = refl
+seen-prefix t (refuses n c) = refl
+
+abbrev pub measured : Answer Tally → Answer Sight
+measured (accepts l) = accepts (sight (l .count) (l .next .at))
+measured (refuses n c) = refuses n c
+
+-- as many operators are recorded of a list as it has
+pub recorded-counts : (r : Reading) (k : Kind) (s : List ℕ) (at : ℕ) {l : Tally} → listAt r k s at ≡ accepts l → length (recordedOps r k (opsAt s at)) ≡ l .count
+recorded-counts r k s at e = recorded-length r k (opsAt s at) ∙ list-counts r k s at e
+
+seen-list : (r : Reading) (k : Kind) (t : ℕ) (s : List ℕ) (at start : ℕ) (a : Answer Tally) → listAt r k s at ≡ a
+    → seen (listPiece t start (recordedOps r k (opsAt s at)) a) ≡ measured a
+seen-list r k t s at start (accepts l) e = ap (λ (n : ℕ). accepts (sight n (l .next .at))) (recorded-counts r k s at e)
+seen-list r k t s at start (refuses n c) e = refl
+
+-- a component, seen
+module _ (r : Reading) (s : List ℕ) (at previous start : ℕ) (h : at < length s) (k : previous < getD s at 0) (l : getD s at 0 ≤ lastType r) where
+  pub prefix-seen : getD s at 0 ≤ 2 → {a : Answer Sight} → a ≡ ended (prefixAt r s (at + 1)) → a ≡ seen (componentAt r s at previous start)
+  prefix-seen m e =
+      e ∙ sym (ap seen (found-typed r s at previous start h k l ∙ typed-prefix r (getD s at 0) s (at + 1) start m) ∙ seen-prefix (getD s at 0) (prefixAt r s (at + 1)))
+
+  pub list-seen : 2 < getD s at 0 → {kind : Kind} → kind ≡ kindOf (getD s at 0) → {a : Answer Tally} → a ≡ listAt r kind s (at + 1)
+      → measured a ≡ seen (componentAt r s at previous start)
+  list-seen m i e =
+      ap measured (e ∙ ap (λ (z : Kind). listAt r z s (at + 1)) i)
+      ∙ sym (ap seen (found-typed r s at previous start h k l ∙ typed-list r (getD s at 0) s (at + 1) start m)
+      ∙ seen-list r (kindOf (getD s at 0)) (getD s at 0) s (at + 1) start (listAt r (kindOf (getD s at 0)) s (at + 1)) refl)

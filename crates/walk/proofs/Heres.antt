@@ -1,0 +1,109 @@
+-- What a component that was found says of the octets, by cases over the ways that it goes: its type rises and is known, it ends past its
+-- operators and within the octets. Assumes nothing.
+use Prim.Native.Nat.{ℕ, _+_, _≤_, _<_}
+use mathlib.Core.Path.{_≡_, refl, sym, _∙_, ap}
+use mathlib.Core.List.{List}
+use mathlib.Core.Logic.{⊎-elim}
+use native.Mathlib.Omega.{arith}
+use lib.ListN.{length, getD}
+use Rattle.ground.specs.Answers.{Answer, accepts, refuses}
+use Rattle.ground.proofs.Cases.{lt-or-le}
+use Rattle.choices.specs.declared.Reading.{Reading}
+use Rattle.choices.specs.declared.Reading.the-variants.{Plain, Ipv4, Ipv6}
+use Rattle.choices.specs.declared.Kind.{Kind}
+use Rattle.choices.specs.Choices.{lastType, kindOf}
+use Rattle.prefixes.specs.Prefixes.{PrefixAt}
+use Rattle.prefixes.proofs.Accepted.{plain-next, ipv4-next, ipv6-next}
+use Rattle.lists.specs.declared.Tally.{Tally}
+use Rattle.lists.specs.Lists.{listAt, opsAt, recordedOps}
+use Rattle.lists.proofs.Ends.{list-ends}
+use Rattle.walk.specs.Walks.{prefixAt, prefixPiece, listPiece, typedAt, Piece, piece, componentAt, Sight, sight, seen}
+use Rattle.walk.proofs.Founds.{found-missing, found-order, found-type, found-typed, typed-prefix, typed-list, recorded-counts}
+
+pub never : {A B : Type 0} {n : ℕ} {c : List ℕ} {x : B} → refuses n c ≡ accepts x → A
+never e = let z : _≡_ {A = ℕ} 0 1 = cc in absurd (omega arith)
+
+pub last-most : (r : Reading) → lastType r ≤ 13
+last-most Plain = omega arith
+last-most Ipv4 = omega arith
+last-most Ipv6 = omega arith
+
+-- a prefix ends past its place and within the octets
+pub prefix-next : (r : Reading) (s : List ℕ) (at : ℕ) (p : PrefixAt) → prefixAt r s at ≡ accepts p → (at < p .next) × (p .next ≤ length s)
+prefix-next Plain s at p e = plain-next s at p e
+prefix-next Ipv4 s at p e = ipv4-next s at p e
+prefix-next Ipv6 s at p e = ipv6-next s at p e
+
+-- where a piece ends, and how many operators it has
+abbrev Ends : List ℕ → ℕ → Piece → Type 0
+Ends s at p = (at + length (p .operators) ≤ p .next) × (p .next ≤ length s)
+
+ends-are : (s : List ℕ) (at n m : ℕ) {p q : Piece} → p ≡ q → length (p .operators) ≡ n → p .next ≡ m → at + n ≤ m → m ≤ length s → Ends s at q
+ends-are s at n m {p} {q} e i j h l =
+    let a : length (q .operators) ≡ length (p .operators) = sym (ap (λ (x : Piece). length (x .operators)) e) in
+    let b : q .next ≡ p .next = sym (ap (λ (x : Piece). x .next) e) in
+    (omega arith, omega arith)
+
+taken : {p q : Piece} → accepts p ≡ accepts q → p ≡ q
+taken e = cc
+
+by-prefix : (r : Reading) (t : ℕ) (s : List ℕ) (at : ℕ) {q : Piece} (a : Answer PrefixAt) → prefixAt r s at ≡ a → prefixPiece t a ≡ accepts q → Ends s at q
+by-prefix r t s at (accepts p) i e = let h = prefix-next r s at p i in ends-are s at 0 (p .next) (taken e) refl refl (omega arith) (h .1)
+by-prefix r t s at (refuses n c) i e = never e
+
+by-list : (r : Reading) (k : Kind) (t : ℕ) (s : List ℕ) (at start : ℕ) {q : Piece} (a : Answer Tally) → listAt r k s at ≡ a
+    → listPiece t start (recordedOps r k (opsAt s at)) a ≡ accepts q → Ends s at q
+by-list r k t s at start (accepts l) i e =
+    let h = list-ends r k s at i in
+    ends-are s at (l .count) (l .next .at) (taken e) (recorded-counts r k s at i) refl (omega arith) (h .1 .1)
+by-list r k t s at start (refuses n c) i e = never e
+
+typed-ends : (r : Reading) (t : ℕ) (s : List ℕ) (at start : ℕ) {p : Piece} → typedAt r t s at start ≡ accepts p → Ends s at p
+typed-ends r t s at start e =
+    ⊎-elim
+    (λ h. by-list r (kindOf t) t s at start (listAt r (kindOf t) s at) refl (sym (typed-list r t s at start h) ∙ e))
+    (λ h. by-prefix r t s at (prefixAt r s at) refl (sym (typed-prefix r t s at start h) ∙ e))
+    (lt-or-le 2 t)
+
+pub record Here (r : Reading) (s : List ℕ) (at previous start : ℕ) (p : Piece) : Type 0 where
+  pub within : at < length s
+  pub rises : previous < getD s at 0
+  pub known : getD s at 0 ≤ lastType r
+  pub most : getD s at 0 ≤ 13
+  pub typed : typedAt r (getD s at 0) s (at + 1) start ≡ accepts p
+  pub past : at + length (p .operators) < p .next
+  pub inside : p .next ≤ length s
+
+pub here : (r : Reading) (s : List ℕ) (at previous start : ℕ) {p : Piece} → componentAt r s at previous start ≡ accepts p → Here r s at previous start p
+here r s at previous start {p} e =
+    ⊎-elim
+    (λ h. ⊎-elim
+    (λ k. ⊎-elim
+    (λ l. never (sym (found-type r s at previous start h k l) ∙ e))
+    (λ l.
+    let t = sym (found-typed r s at previous start h k l) ∙ e in
+    let d = typed-ends r (getD s at 0) s (at + 1) start t in
+    let m = last-most r in
+    record { within = h; rises = k; known = l; most = omega arith; typed = t; past = omega arith; inside = d .1 })
+    (lt-or-le (lastType r) (getD s at 0)))
+    (λ k. never (sym (found-order r s at previous start h k) ∙ e))
+    (lt-or-le previous (getD s at 0)))
+    (λ h. never (sym (found-missing r s at previous start h) ∙ e))
+    (lt-or-le at (length s))
+
+-- the piece behind what was seen of it
+pub record Sighted (a : Answer Piece) (n m : ℕ) : Type 0 where
+  pub what : Piece
+  pub is : a ≡ accepts what
+  pub count : length (what .operators) ≡ n
+  pub next : what .next ≡ m
+
+pub sighted : (a : Answer Piece) {n m : ℕ} → accepts (sight n m) ≡ seen a → Sighted a n m
+sighted (accepts p) {n} {m} e =
+    let z : sight n m ≡ sight (length (p .operators)) (p .next) = cc in
+    record { what = p; is = refl; count = sym (ap (λ (x : Sight). x .operators) z); next = sym (ap (λ (x : Sight). x .next) z) }
+sighted (refuses n c) e = never (sym e)
+
+pub unseen : (a : Answer Piece) {n : ℕ} {c : List ℕ} → refuses n c ≡ seen a → a ≡ refuses n c
+unseen (accepts p) e = never e
+unseen (refuses n c) e = cc

@@ -1,0 +1,6 @@
+pub mod Founds
+pub mod Heres
+pub mod Turns
+pub mod Once
+pub mod Mets
+pub mod Chains

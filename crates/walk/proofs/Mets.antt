@@ -1,0 +1,138 @@
+-- Which refusals a walk meets, by induction over it: 1 to 4, and in the plain reading 5. So none meets 6, and a standard one no 5. Assumes nothing.
+use Prim.Native.Nat.{ℕ, zero, suc, _+_, _-_}
+use mathlib.Core.Path.{_≡_, refl}
+use mathlib.Core.Bool.{Bool, true, false}
+use mathlib.Core.List.{List, [], _∷_}
+use native.Mathlib.Omega.{arith}
+use lib.Dec.{leb, ltb}
+use lib.ListN.{length, getD}
+use Rattle.ground.specs.Answers.{Answer, accepts, refuses}
+use Rattle.ground.specs.Picks.{pick}
+use Rattle.ground.proofs.Cases.{by-test}
+use Rattle.choices.specs.declared.Reading.{Reading}
+use Rattle.choices.specs.declared.Reading.the-variants.{Plain, Ipv4, Ipv6}
+use Rattle.choices.specs.declared.Kind.{Kind}
+use Rattle.choices.specs.Choices.{lastType, kindOf, refusedIn}
+use Rattle.choices.specs.Operators.{Op}
+use Rattle.prefixes.specs.Prefixes.{PrefixAt, octetsOf, octetsAt, boundedAt, plainPrefix, ipv4Prefix, ipv6Prefix, offsetFits, plainAt, ipv4At, ipv6At}
+use Rattle.rules.specs.declared.NetworkPrefix.{NetworkPrefix}
+use Rattle.lists.specs.declared.Tally.{Tally}
+use Rattle.lists.specs.Lists.{tally, Step, operator, missing, stepAt, turn as listTurn, listFrom, listAt, opsAt, recordedOps}
+use Rattle.walk.specs.Walks.{prefixAt, Piece, prefixPiece, listPiece, typedAt, componentAt, Body, body, joined, turn, walkFrom, walkAt}
+
+-- the refusals that a walk may meet
+abbrev pub walkMeets : Reading → ℕ → Bool
+walkMeets Plain n = leb n 5
+walkMeets Ipv4 n = leb n 4
+walkMeets Ipv6 n = leb n 4
+
+-- an answer whose refusal, if it is one, is such
+abbrev pub Met {ℓ} : {A : Type ℓ} → (ℕ → Bool) → Answer A → Type 0
+Met m (accepts x) = Unit
+Met m (refuses n c) = m n ≡ true
+
+early : (r : Reading) (n : ℕ) → leb n 4 ≡ true → leb n 5 ≡ true → walkMeets r n ≡ true
+early Plain n a b = b
+early Ipv4 n a b = a
+early Ipv6 n a b = a
+
+-- by the test that picks
+either-met : {A : Type 0} (m : ℕ → Bool) (t : Bool) (x y : Answer A) → (t ≡ true → Met m x) → (t ≡ false → Met m y) → Met m (pick t x y)
+either-met m true x y f g = f refl
+either-met m false x y f g = g refl
+
+module _ (r : Reading) where
+  one : walkMeets r 1 ≡ true
+  one = early r 1 refl refl
+
+  four : walkMeets r 4 ≡ true
+  four = early r 4 refl refl
+
+  met-octets : (s : List ℕ) (from k : ℕ) (make : ℕ → NetworkPrefix) → Met (walkMeets r) (octetsAt s from k make)
+  unfolding octetsAt
+  met-octets s from k make = by-test (ltb (length s - from) k) (λ t. rw t one) (λ f. rw f tt)
+
+  met-bounded : (most : ℕ) (make : ℕ → ℕ → NetworkPrefix) (s : List ℕ) (at : ℕ) → Met (walkMeets r) (boundedAt most make s at)
+  unfolding boundedAt
+  met-bounded most make s at =
+      by-test (leb (length s) at) (λ t. rw t one)
+      (λ f. by-test (ltb most (getD s at 0)) (λ t. rw (f, t) four) (λ g. rw (f, g) (met-octets s (at + 1) (octetsOf (getD s at 0)) (make (getD s at 0)))))
+
+  met-offset : (s : List ℕ) (at : ℕ) → Met (walkMeets r) (ipv6At s at)
+  unfolding ipv6At
+  met-offset s at =
+      let len = getD s at 0 in
+      let off = getD s (at + 1) 0 in
+      by-test (leb (length s) at) (λ t. rw t one)
+      (λ f. by-test (leb (length s) (at + 1)) (λ t. rw (f, t) one)
+      (λ g. by-test (offsetFits len off) (λ t. rw (f, g, t) (met-octets s (at + 2) (octetsOf (len - off)) (ipv6Prefix len off))) (λ h. rw (f, g, h) four)))
+
+met-prefix : (r : Reading) (s : List ℕ) (at : ℕ) → Met (walkMeets r) (prefixAt r s at)
+unfolding plainAt ipv4At
+met-prefix Plain s at = met-bounded Plain 128 plainPrefix s at
+met-prefix Ipv4 s at = met-bounded Ipv4 32 ipv4Prefix s at
+met-prefix Ipv6 s at = met-offset Ipv6 s at
+
+-- 5 is the plain reading's alone
+five : (r : Reading) (k : Kind) (x : ℕ) → refusedIn r k x ≡ true → walkMeets r 5 ≡ true
+unfolding refusedIn
+five Plain k x e = refl
+five Ipv4 k x e = let z : _≡_ {A = ℕ} 0 1 = cc in absurd (omega arith)
+five Ipv6 k x e = let z : _≡_ {A = ℕ} 0 1 = cc in absurd (omega arith)
+
+met-step : (r : Reading) (k : Kind) (n : ℕ) (go : ℕ → ℕ → Answer Tally) → ((a i : ℕ) → Met (walkMeets r) (go a i)) → (o : Step) → Met (walkMeets r) (listTurn r k n o go)
+met-step r k n go ih missing = one r
+met-step r k n go ih (operator x v a) =
+    either-met (walkMeets r) (refusedIn r k x) (refuses 5 (x ∷ [])) (pick (leb 128 x) (accepts (tally (n + 1) a)) (go a (n + 1))) (λ t. five r k x t)
+    (λ f. either-met (walkMeets r) (leb 128 x) (accepts (tally (n + 1) a)) (go a (n + 1)) (λ t. tt) (λ g. ih a (n + 1)))
+
+met-from : (r : Reading) (k : Kind) (f : ℕ) (s : List ℕ) (at n : ℕ) → Met (walkMeets r) (listFrom r k f s at n)
+unfolding listFrom
+met-from r k zero s at n = one r
+met-from r k (suc f) s at n = met-step r k n (listFrom r k f s) (λ a i. met-from r k f s a i) (stepAt s at)
+
+met-list : (r : Reading) (k : Kind) (s : List ℕ) (at : ℕ) → Met (walkMeets r) (listAt r k s at)
+unfolding listAt
+met-list r k s at = met-from r k (length s) s at 0
+
+prefix-met : (m : ℕ → Bool) (t : ℕ) (a : Answer PrefixAt) → Met m a → Met m (prefixPiece t a)
+prefix-met m t (accepts p) h = tt
+prefix-met m t (refuses n c) h = h
+
+list-met : (m : ℕ → Bool) (t start : ℕ) (os : List Op) (a : Answer Tally) → Met m a → Met m (listPiece t start os a)
+list-met m t start os (accepts l) h = tt
+list-met m t start os (refuses n c) h = h
+
+met-typed : (r : Reading) (t : ℕ) (s : List ℕ) (at start : ℕ) → Met (walkMeets r) (typedAt r t s at start)
+unfolding typedAt
+met-typed r t s at start =
+    either-met (walkMeets r) (leb t 2) (prefixPiece t (prefixAt r s at)) (listPiece t start (recordedOps r (kindOf t) (opsAt s at)) (listAt r (kindOf t) s at))
+    (λ e. prefix-met (walkMeets r) t (prefixAt r s at) (met-prefix r s at))
+    (λ e. list-met (walkMeets r) t start (recordedOps r (kindOf t) (opsAt s at)) (listAt r (kindOf t) s at) (met-list r (kindOf t) s at))
+
+met-component : (r : Reading) (s : List ℕ) (at previous start : ℕ) → Met (walkMeets r) (componentAt r s at previous start)
+unfolding componentAt
+met-component r s at previous start =
+    let t = getD s at 0 in
+    by-test (leb (length s) at) (λ e. rw e (one r))
+    (λ e. by-test (leb t previous) (λ g. rw (e, g) (early r 2 refl refl))
+    (λ g. by-test (ltb (lastType r) t) (λ h. rw (e, g, h) (early r 3 refl refl)) (λ h. rw (e, g, h) (met-typed r t s (at + 1) start))))
+
+joined-met : (m : ℕ → Bool) (p : Piece) (a : Answer Body) → Met m a → Met m (joined p a)
+joined-met m p (accepts b) h = tt
+joined-met m p (refuses n c) h = h
+
+turn-met : (m : ℕ → Bool) (t start : ℕ) (a : Answer Piece) (go : ℕ → ℕ → ℕ → Answer Body) → Met m a → ((x y z : ℕ) → Met m (go x y z)) → Met m (turn t start a go)
+turn-met m t start (accepts p) go h ih = joined-met m p (go (p .next) t (start + length (p .operators))) (ih (p .next) t (start + length (p .operators)))
+turn-met m t start (refuses n c) go h ih = h
+
+walk-from : (k : ℕ) (r : Reading) (s : List ℕ) (stop at previous start : ℕ) → Met (walkMeets r) (walkFrom k r s stop at previous start)
+unfolding walkFrom
+walk-from zero r s stop at previous start = one r
+walk-from (suc k) r s stop at previous start =
+    either-met (walkMeets r) (leb stop at) (accepts (body [] [])) (turn (getD s at 0) start (componentAt r s at previous start) (walkFrom k r s stop)) (λ e. tt)
+    (λ e. turn-met (walkMeets r) (getD s at 0) start (componentAt r s at previous start) (walkFrom k r s stop) (met-component r s at previous start) (λ x y z. walk-from k r s stop x y z))
+
+pub met-walk : (r : Reading) (s : List ℕ) (stop : ℕ) → Met (walkMeets r) (walkAt r s stop)
+unfolding walkAt
+met-walk r s stop = walk-from 14 r s stop 0 0 0

@@ -1,0 +1,114 @@
+-- The turns of a walk: what is left of it at a place, `rest`, goes by what is found there. What bounds the recursion is a constant less
+-- the components that are passed; an invariant holds their number, which is at most the last type. Assumes nothing.
+use Prim.Native.Nat.{ℕ, suc, _+_, _-_, _≤_, _<_}
+use mathlib.Core.Path.{_≡_, refl, sym, _∙_, ap, ap₂}
+use mathlib.Core.List.{List, []}
+use native.Mathlib.Omega.{arith}
+use borrow.Author.Tests.{le-leb, lt-leb}
+use lib.ListN.{length, getD, length-append}
+use Rattle.ground.specs.Answers.{Answer, accepts, refuses}
+use Rattle.choices.specs.declared.Reading.{Reading}
+use Rattle.walk.specs.Walks.{Piece, componentAt, Body, body, joined, turn, walkFrom, walkAt, sight, seen, counted}
+use Rattle.walk.proofs.Heres.{Here, here, Sighted, sighted, unseen}
+
+-- what is left of a walk at a place, after j components
+unfoldable pub rest : Reading → List ℕ → ℕ → ℕ → ℕ → ℕ → ℕ → Answer Body
+rest r s stop at previous start j = walkFrom (14 - j) r s stop at previous start
+
+pub rest-first : (r : Reading) (s : List ℕ) (stop : ℕ) → walkAt r s stop ≡ rest r s stop 0 0 0 0
+unfolding walkAt rest
+rest-first r s stop = refl
+
+module _ (r : Reading) (s : List ℕ) (stop at previous start j : ℕ) (few : j ≤ 13) where
+  pub rest-end : stop ≤ at → rest r s stop at previous start j ≡ accepts (body [] [])
+  unfolding rest walkFrom
+  rest-end h = let f : 14 - j ≡ suc (14 - (j + 1)) = omega arith in rw (f, le-leb stop at h)
+
+  module _ (h : at < stop) where
+    step-of : rest r s stop at previous start j ≡ turn (getD s at 0) start (componentAt r s at previous start) (walkFrom (14 - (j + 1)) r s stop)
+    unfolding rest walkFrom
+    step-of = let f : 14 - j ≡ suc (14 - (j + 1)) = omega arith in rw (f, lt-leb stop at h)
+
+    pub rest-refused : {n : ℕ} {c : List ℕ} → componentAt r s at previous start ≡ refuses n c → rest r s stop at previous start j ≡ refuses n c
+    rest-refused e = step-of ∙ rw e
+
+    pub rest-part : {p : Piece} → componentAt r s at previous start ≡ accepts p
+        → rest r s stop at previous start j ≡ joined p (rest r s stop (p .next) (getD s at 0) (start + length (p .operators)) (j + 1))
+    unfolding rest
+    rest-part e = step-of ∙ rw e
+
+-- the operators of a walk of which n are passed
+abbrev pub countedOn : ℕ → Answer Body → Answer ℕ
+countedOn n (accepts b) = accepts (n + length (b .operators))
+countedOn n (refuses number carried) = refuses number carried
+
+counted-first : (a : Answer Body) → counted a ≡ countedOn 0 a
+counted-first (accepts b) = ap (λ (x : ℕ). accepts x) (omega arith)
+counted-first (refuses n c) = refl
+
+counted-more : (n : ℕ) (p : Piece) (a : Answer Body) → countedOn n (joined p a) ≡ countedOn (n + length (p .operators)) a
+counted-more n p (accepts b) = ap (λ (x : ℕ). accepts x) (simp length-append (omega arith))
+counted-more n p (refuses m c) = refl
+
+-- where the first walk stands: its invariant
+pub record Walking (r : Reading) (s : List ℕ) (stop at previous operators : ℕ) : Type 0 where
+  pub components : ℕ
+  pub few : components ≤ previous
+  pub known : previous ≤ 13
+  pub place : operators ≤ at
+  pub same : counted (walkAt r s stop) ≡ countedOn operators (rest r s stop at previous operators components)
+
+pub walking-first : (r : Reading) (s : List ℕ) (stop : ℕ) → Walking r s stop 0 0 0
+walking-first r s stop =
+    record {
+      components = 0;
+      few = omega arith;
+      known = omega arith;
+      place = omega arith;
+      same = counted-first (walkAt r s stop) ∙ ap (countedOn 0) (rest-first r s stop);
+    }
+
+module _ {r : Reading} {s : List ℕ} {stop at previous operators : ℕ} (w : Walking r s stop at previous operators) where
+  few-of : w .components ≤ 13
+  few-of = omega (arith, w .few, w .known)
+
+  pub walking-end : stop ≤ at → accepts operators ≡ counted (walkAt r s stop)
+  walking-end h =
+      ap (λ (x : ℕ). accepts x) (omega arith)
+      ∙ sym (w .same ∙ ap (countedOn operators) (rest-end r s stop at previous operators (w .components) few-of h))
+
+  module _ (h : at < stop) where
+    pub walking-refused : {n : ℕ} {c : List ℕ} → refuses n c ≡ seen (componentAt r s at previous operators) → refuses n c ≡ counted (walkAt r s stop)
+    walking-refused e =
+        sym (w .same ∙ ap (countedOn operators) (rest-refused r s stop at previous operators (w .components) few-of h (unseen (componentAt r s at previous operators) e)))
+
+    module _ {n m : ℕ} (e : accepts (sight n m) ≡ seen (componentAt r s at previous operators)) where
+      pub found : Sighted (componentAt r s at previous operators) n m
+      found = sighted (componentAt r s at previous operators) e
+
+      pub found-here : Here r s at previous operators (found .what)
+      found-here = here r s at previous operators (found .is)
+
+      pub found-bounds : (at < length s) × ((previous < getD s at 0) × ((getD s at 0 ≤ 13) × ((at + n < m) × (m ≤ length s))))
+      found-bounds =
+          let d = found-here in
+          let f = found in
+          let i = f .count in
+          let j = f .next in
+          (d .within, (d .rises, (d .most, (omega (arith, d .past), omega (arith, d .inside)))))
+
+      pub walking-more : Walking r s stop m (getD s at 0) (operators + n)
+      walking-more =
+          let f = found in
+          let b = found-bounds in
+          let q = rest-part r s stop at previous operators (w .components) few-of h (f .is) in
+          record {
+            components = w .components + 1;
+            few = omega (arith, w .few);
+            known = b .1 .1 .0;
+            place = omega (arith, w .place);
+            same =
+                w .same ∙ ap (countedOn operators) q
+                ∙ counted-more operators (f .what) (rest r s stop (f .what .next) (getD s at 0) (operators + length (f .what .operators)) (w .components + 1))
+                ∙ ap₂ (λ (x y : ℕ). countedOn (operators + x) (rest r s stop y (getD s at 0) (operators + x) (w .components + 1))) (f .count) (f .next);
+          }

@@ -1,0 +1,69 @@
+-- `walk::bounded_end` meets its contract: each return is one of the ways that a bounded prefix goes. Assumes nothing.
+use mathlib.Core.Path.{ap}
+use Rattle.prefixes.proofs.Readings.{bounded-missing, bounded-over, bounded-octets, octets-missing}
+use Rattle.walk.specs.Walks.{ended}
+use Rattle.walk.proofs.Founds.{octets-there}
+use borrow.Author.Needs.{needs}
+use Rattle.walk.proofs.bounded_end.Statement.{statement}
+use Rattle.walk.proofs.bounded_end.Tie as tie
+use Rattle.walk.proofs.bounded_end.Reads as reads
+use Rattle.walk.proofs.bounded_end.Lts as lts
+use Rattle.prefixes.proofs.octets_of.Reads as octets-of-reads
+
+-- src/lib.rt:44:9
+returns : tie.Need-returns
+returns c = λ make. ap ended (bounded-missing _ make _ _ (c .if1 .taken))
+
+-- src/lib.rt:48:15
+shared-slice-read-len : tie.Need-shared-slice-read-len
+shared-slice-read-len c = search needs
+
+-- src/lib.rt:50:9
+returns-2 : tie.Need-returns-2
+returns-2 c = λ make. ap ended (bounded-over _ make _ _ (c .before .before .if1 .left) (c .if2 .taken))
+
+-- src/lib.rt:54:9
+octets-of-requires : tie.Need-octets-of-requires
+octets-of-requires c κs = search needs
+
+-- src/lib.rt:55:16
+add-from : tie.Need-add-from
+add-from c = search needs
+
+-- src/lib.rt:56:8
+sub-if3 : tie.Need-sub-if3
+sub-if3 c = search needs
+
+-- src/lib.rt:57:9
+returns-3 : tie.Need-returns-3
+returns-3 c =
+    λ make.
+    let o = c .before in
+    let e = o .before in
+    ap ended (octets-missing _ _ _ _ _ (bounded-octets _ make _ _ (e .before .before .if1 .left) (e .if2 .left)) _ (o .octets-of .ensures) (c .if3 .taken))
+
+-- src/lib.rt:63:28
+add-t8 : tie.Need-add-t8
+add-t8 c = search needs
+
+-- src/lib.rt:39:1
+returns-4 : tie.Need-returns-4
+returns-4 c =
+    λ make.
+    let o = c .before in
+    let e = o .before in
+    octets-there _ _ _ _ _ (bounded-octets _ make _ _ (e .before .before .if1 .left) (e .if2 .left)) _ (o .octets-of .ensures) (c .if3 .left)
+
+pub bounded-end-spec : {M : Type 1} → statement M
+bounded-end-spec =
+    tie.close
+    (tie.spec
+    returns
+    shared-slice-read-len
+    returns-2
+    octets-of-requires
+    add-from
+    sub-if3
+    returns-3
+    add-t8
+    returns-4)

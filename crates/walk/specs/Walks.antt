@@ -1,0 +1,117 @@
+-- One component at a place of a body, and the walk over all of them: document 01, "The length and the component walk"; RFC 8955, 4.2. Every
+-- reading walks so. They part in the choices (`lastType`, and what `listAt` and `recordedOps` take from them) and in how a prefix is read.
+-- Assumes nothing.
+use Prim.Native.Nat.{ℕ, zero, suc, _+_}
+use mathlib.Core.List.{List, [], _∷_, _++_}
+use lib.ListN.{length, getD}
+use lib.Dec.{ltb, leb}
+use Rattle.ground.specs.Answers.{Answer, accepts, refuses}
+use Rattle.ground.specs.Picks.{pick}
+use Rattle.refusals.specs.Refusals.{refusal}
+use Rattle.choices.specs.declared.Reading.{Reading}
+use Rattle.choices.specs.declared.Reading.the-variants.{Plain, Ipv4, Ipv6}
+use Rattle.choices.specs.Choices.{lastType, kindOf}
+use Rattle.choices.specs.Operators.{Op}
+use Rattle.rules.specs.declared.FlowSpecComponent.{FlowSpecComponent}
+use Rattle.rules.specs.Components.{prefixOf, listOf}
+use Rattle.prefixes.specs.Prefixes.{PrefixAt, plainAt, ipv4At, ipv6At}
+use Rattle.lists.specs.declared.Tally.{Tally}
+use Rattle.lists.specs.Lists.{listAt, opsAt, recordedOps}
+use Rattle.walk.specs.declared.Found.{Found}
+use Rattle.walk.specs.declared.Found.the-variants.{Component, Refused}
+use Rattle.walk.specs.declared.Walked.{Walked}
+use Rattle.walk.specs.declared.Walked.the-variants.{Accepted, Refused as NotAccepted}
+
+-- the sixth choice: how a prefix is read
+abbrev pub prefixAt : Reading → List ℕ → ℕ → Answer PrefixAt
+prefixAt Plain s at = plainAt s at
+prefixAt Ipv4 s at = ipv4At s at
+prefixAt Ipv6 s at = ipv6At s at
+
+-- a component, the operators that are recorded of it, and the place after it
+pub record Piece : Type 0 where
+  pub component : FlowSpecComponent
+  pub operators : List Op
+  pub next : ℕ
+
+abbrev pub piece : FlowSpecComponent → List Op → ℕ → Piece
+piece c os next = record { component = c; operators = os; next = next }
+
+abbrev pub prefixPiece : ℕ → Answer PrefixAt → Answer Piece
+prefixPiece type (accepts p) = accepts (piece (prefixOf type (p .prefix)) [] (p .next))
+prefixPiece type (refuses number carried) = refuses number carried
+
+-- a list's operators go to the places from `start` on
+abbrev pub listPiece : ℕ → ℕ → List Op → Answer Tally → Answer Piece
+listPiece type start os (accepts l) = accepts (piece (listOf type (record { start = start; count = l .count })) os (l .next .at))
+listPiece type start os (refuses number carried) = refuses number carried
+
+-- "Types 1 and 2 are prefixes, 9 and 12 bitmask lists, the others numeric lists": what follows a type octet
+unfoldable pub typedAt : Reading → ℕ → List ℕ → ℕ → ℕ → Answer Piece
+typedAt reading type s at start =
+    pick (leb type 2) (prefixPiece type (prefixAt reading s at))
+    (listPiece type start (recordedOps reading (kindOf type) (opsAt s at)) (listAt reading (kindOf type) s at))
+
+-- "Each component starts with a type octet. Checks: the type must exceed the previous one (0 at first), then it must be known (1 to 13; in
+-- the standard IPv4 reading 1 to 12)"; "any octet missing before its bound" is 1
+unfoldable pub componentAt : Reading → List ℕ → ℕ → ℕ → ℕ → Answer Piece
+componentAt reading s at previous start =
+    pick (leb (length s) at) (refuses 1 [])
+    (pick (leb (getD s at 0) previous) (refuses 2 (previous ∷ getD s at 0 ∷ []))
+    (pick (ltb (lastType reading) (getD s at 0)) (refuses 3 (getD s at 0 ∷ [])) (typedAt reading (getD s at 0) s (at + 1) start)))
+
+-- the components of a body, and their operators one after the other
+pub record Body : Type 0 where
+  pub components : List FlowSpecComponent
+  pub operators : List Op
+
+abbrev pub body : List FlowSpecComponent → List Op → Body
+body cs os = record { components = cs; operators = os }
+
+abbrev pub joined : Piece → Answer Body → Answer Body
+joined p (accepts b) = accepts (body (p .component ∷ b .components) (p .operators ++ b .operators))
+joined p (refuses number carried) = refuses number carried
+
+-- what follows from a component, of which the type is given and the operators start at a place
+abbrev pub turn : ℕ → ℕ → Answer Piece → (ℕ → ℕ → ℕ → Answer Body) → Answer Body
+turn type start (accepts p) go = joined p (go (p .next) type (start + length (p .operators)))
+turn type start (refuses number carried) go = refuses number carried
+
+-- from a place on: components start before `stop`, "a last component may overrun it" where the octets go on. The first number bounds the
+-- components: their types rise from 1 to 13
+unfoldable pub walkFrom : ℕ → Reading → List ℕ → ℕ → ℕ → ℕ → ℕ → Answer Body
+walkFrom zero reading s stop at previous start = refuses 1 []
+walkFrom (suc k) reading s stop at previous start =
+    pick (leb stop at) (accepts (body [] [])) (turn (getD s at 0) start (componentAt reading s at previous start) (walkFrom k reading s stop))
+
+unfoldable pub walkAt : Reading → List ℕ → ℕ → Answer Body
+walkAt reading s stop = walkFrom 14 reading s stop 0 0 0
+
+-- what the first walk sees of a component: how many operators it has, and the place after it
+pub record Sight : Type 0 where
+  pub operators : ℕ
+  pub next : ℕ
+
+abbrev pub sight : ℕ → ℕ → Sight
+sight n next = record { operators = n; next = next }
+
+abbrev pub toldFound : Found → Answer Sight
+toldFound (Component n next) = accepts (sight n (next .at))
+toldFound (Refused f) = refusal f
+
+abbrev pub seen : Answer Piece → Answer Sight
+seen (accepts p) = accepts (sight (length (p .operators)) (p .next))
+seen (refuses number carried) = refuses number carried
+
+abbrev pub ended : Answer PrefixAt → Answer Sight
+ended (accepts p) = accepts (sight 0 (p .next))
+ended (refuses number carried) = refuses number carried
+
+-- and of all of them: how many operators they have
+abbrev pub toldWalk : Walked → Answer ℕ
+toldWalk (Accepted n) = accepts n
+toldWalk (NotAccepted f) = refusal f
+
+abbrev pub counted : Answer Body → Answer ℕ
+counted (accepts b) = accepts (length (b .operators))
+counted (refuses number carried) = refuses number carried
