@@ -4,7 +4,15 @@ use Prim.Native.Nat.{ℕ}
 use mathlib.Core.List.{List}
 use lib.ListN.{getD}
 use Rattle.ground.specs.Answers.{Answer, accepts, refuses}
-use Rattle.reading.specs.Readings.{Taken}
+use lib.Dec.{eqb}
+use Rattle.ground.specs.Picks.{pick}
+use Rattle.refusals.specs.Refusals.{refusal}
+use Rattle.choices.specs.declared.Reading.{Reading}
+use Rattle.choices.specs.declared.Reading.the-variants.{Plain}
+use Rattle.reading.specs.Readings.{Taken, standardOf}
+use Rattle.krubbadin.specs.declared.Which.{Which}
+use Rattle.krubbadin.specs.declared.Which.the-variants.{Is, Refused}
+use Rattle.writing.specs.Writings.{writtenFrom}
 use Rattle.krubbadin.specs.declared.KrubbadinAnswer.{KrubbadinAnswer}
 
 abbrev pub refusedWith : ℕ → List ℕ → KrubbadinAnswer
@@ -14,3 +22,20 @@ refusedWith number carried = record { status = number; first = getD carried 0 0;
 abbrev pub readAnswer : Answer Taken → KrubbadinAnswer
 readAnswer (accepts t) = record { status = 0; first = t .used; second = t .operators }
 readAnswer (refuses number carried) = refusedWith number carried
+
+-- the number that a call is given for a reading: 0 is the plain one, 4 and 6 are the standard ones, any other is BadFamily
+unfoldable pub whichOf : ℕ → Answer Reading
+whichOf number = pick (eqb number 0) (accepts Plain) (standardOf number)
+
+abbrev pub toldWhich : Which → Answer Reading
+toldWhich (Is reading) = accepts reading
+toldWhich (Refused f) = refusal f
+
+-- a writing: the octets written
+abbrev pub writtenAnswer : Answer ℕ → KrubbadinAnswer
+writtenAnswer (accepts n) = record { status = 0; first = n; second = 0 }
+writtenAnswer (refuses number carried) = refusedWith number carried
+
+abbrev pub byWriting : Answer Reading → List ℕ → List ℕ → List ℕ → ℕ → Answer (List ℕ)
+byWriting (accepts writing) words values octets room = writtenFrom writing words values octets room
+byWriting (refuses number carried) words values octets room = refuses number carried

@@ -9,6 +9,7 @@ use reading::ReadInto;
 use refusals::Fault;
 use rules::FlowSpecComponent;
 use rules::FlowSpecNlri;
+use writing::Written;
 
 // A refusal: its number and what it carries.
 fn put_fault(out: &mut [u8], at: usize, fault: Fault) -> usize {
@@ -141,6 +142,33 @@ fn put_read(
     }
 }
 
+// A rule written by the plain writing.
+fn encode(line: &[u8], out: &mut [u8]) -> usize {
+    let mut words = [0u64; 64];
+    let mut values = [0u64; 2100];
+    let mut octets = [0u8; 2100];
+    let mut written = [0u8; 5000];
+    super::ruletext::read_rule(line, 7, &mut words, &mut values, &mut octets);
+    put_written(&words, &values, &octets, &mut written, out)
+}
+
+fn put_written(
+    words: &[u64],
+    values: &[u64],
+    octets: &[u8],
+    written: &mut [u8],
+    out: &mut [u8],
+) -> usize {
+    match writing::write_from(Reading::Plain, words, values, octets, written) {
+        Written::Octets(n) => {
+            let end = super::text::put_number(out, 0, 0);
+            let at = super::text::put(out, end, b' ');
+            super::ruletext::put_octets(out, at, written, n)
+        }
+        Written::Refused(fault) => put_fault(out, 0, fault),
+    }
+}
+
 // The rule that a line's text names, by value: none where its words are no record.
 fn rule_in(line: &[u8], from: usize) -> FlowSpecNlri {
     let mut words = [0u64; 64];
@@ -189,6 +217,9 @@ fn answer(line: &[u8], out: &mut [u8]) -> usize {
     }
     if super::text::is(line, b"parse") {
         return parse(line, out);
+    }
+    if super::text::is(line, b"encode") {
+        return encode(line, out);
     }
     if super::text::is(line, b"kind") {
         return kind(line, out);

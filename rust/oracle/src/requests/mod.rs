@@ -30,7 +30,7 @@ const PARTS: [Part; 3] = [
     },
     Part {
         name: "writings",
-        stored: false,
+        stored: true,
         requests: writings::requests,
     },
 ];

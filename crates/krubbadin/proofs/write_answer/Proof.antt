@@ -1,0 +1,35 @@
+-- `krubbadin::write_answer` meets its contract, by the answer. Assumes nothing.
+use Rattle.krubbadin.specs.Surface.{writtenAnswer}
+use Rattle.writing.specs.Writings.{toldWritten}
+use Rattle.writing.specs.declared.Written.{Written}
+use mathlib.Core.Path.{sym, ap, _∙_}
+use borrow.Author.Needs.{needs}
+use Rattle.krubbadin.proofs.write_answer.Statement.{statement}
+use Rattle.krubbadin.proofs.write_answer.Tie as tie
+use Rattle.krubbadin.proofs.write_answer.Reads as reads
+use Rattle.krubbadin.proofs.write_answer.Lts as lts
+use Rattle.krubbadin.proofs.refused.Reads as refused-reads
+
+-- src/lib.rt:104:25
+enum-known-r : tie.Need-enum-known-r
+enum-known-r c = search needs
+
+-- src/lib.rt:109:26
+enum-known-r-2 : tie.Need-enum-known-r-2
+enum-known-r-2 c = search needs
+
+-- src/lib.rt:109:36
+refused-requires : tie.Need-refused-requires
+refused-requires c κs = search needs
+
+-- src/lib.rt:100:1
+returns : tie.Need-returns
+returns c = sym (ap (λ (x : Written). writtenAnswer (toldWritten x)) (c .before .r .given .1))
+
+-- src/lib.rt:100:1
+returns-2 : tie.Need-returns-2
+returns-2 c = c .refused .ensures ∙ sym (ap (λ (x : Written). writtenAnswer (toldWritten x)) (c .before .before .r2 .given .1))
+
+pub write-answer-spec : {M : Type 1} → statement M
+write-answer-spec =
+    tie.close (tie.spec enum-known-r enum-known-r-2 refused-requires returns returns-2)

@@ -1,0 +1,70 @@
+-- The turns of the loops that write a list: one operator more, a run more, and the end. Assumes nothing.
+use Prim.Native.Nat.{ℕ, suc, _+_, _-_, _≤_, _<_}
+use mathlib.Core.Path.{_≡_, refl, sym, _∙_, ap}
+use mathlib.Core.List.{List, [], _∷_, _++_}
+use native.Mathlib.Omega.{arith}
+use native.Mathlib.Numerals.{add-one}
+use lib.ListN.{length, getD, set, length-set}
+use lib.Seq.{sets, length-sets}
+use Rattle.ground.proofs.Overlays.{sets-append}
+use Rattle.octets.specs.Spell.{spelled}
+use Rattle.octets.specs.Widths.{widths, codeIn, widthOf}
+use Rattle.octets.proofs.Spells.{length-spelled}
+use Rattle.choices.specs.declared.Kind.{Kind}
+use Rattle.choices.specs.Choices.{clearedIn}
+use Rattle.choices.specs.Operators.{op, opsIn, opOctets, listOctets}
+use Rattle.listwriting.specs.Lists.{sizeIn}
+use Rattle.listwriting.specs.Runs.{between, Put}
+use Rattle.listwriting.proofs.Sizes.{size-more, size-none, ops-more, ops-none}
+
+module _ (kind : Kind) (values octets : List ℕ) (from to at : ℕ) (out₀ : List ℕ) where
+  pub put-first : from ≤ to → Put kind values octets from to at out₀ out₀ from at
+  put-first h = record { least = omega arith; most = h; long = refl; place = refl; stored = refl }
+
+  module _ {out : List ℕ} {q p : ℕ} (h : Put kind values octets from to at out₀ out q p) where
+    -- all are written
+    pub put-end : to ≤ q → (p ≡ at + sizeIn octets from (to - from)) × (out ≡ sets out₀ at (between kind values octets from to))
+    unfolding listOctets
+    put-end e =
+        let z = size-none octets q to e in
+        (omega (arith, h .place), ap (λ os. sets out p (listOctets kind os)) (sym (ops-none values octets q to e)) ∙ h .stored)
+
+    -- there is room for those that are left
+    pub put-left : at + sizeIn octets from (to - from) ≤ length out₀ → p + sizeIn octets q (to - q) ≤ length out
+    put-left r = omega (arith, h .place, h .long)
+
+    -- a run goes on where another ended
+    pub put-chain : {out' : List ℕ} {q' p' : ℕ} → Put kind values octets q to p out out' q' p' → Put kind values octets from to at out₀ out' q' p'
+    put-chain g = record {
+      least = omega (arith, h .least, g .least);
+      most = g .most;
+      long = g .long ∙ h .long;
+      place = g .place ∙ h .place;
+      stored = g .stored ∙ h .stored;
+    }
+
+    module _ (code w : ℕ) (is-w : w ≡ getD widths code 0) (e : q < to) (is : codeIn (getD octets q 0) ≡ code) where
+      wide : widthOf (getD octets q 0) ≡ getD widths code 0
+      wide = ap (λ (k : ℕ). getD widths k 0) is
+
+      -- there is room for the next operator
+      pub put-room : at + sizeIn octets from (to - from) ≤ length out₀ → p + 1 + getD widths code 0 ≤ length out
+      put-room r = omega (arith, h .place, h .long, size-more octets q to e, wide)
+
+      -- one operator more
+      pub put-more : {out' : List ℕ} {x : ℕ} → x ≡ clearedIn kind (getD octets q 0) → out' ≡ sets (set out p x) (p + 1) (spelled (getD widths code 0) (getD values q 0))
+          → Put kind values octets from to at out₀ out' (q + 1) (p + 1 + w)
+      unfolding listOctets
+      put-more {out'} {x} f g =
+          let o = op (getD octets q 0) (getD values q 0) in
+          let s : out' ≡ sets out p (opOctets kind o) = g ∙ rw (add-one p, f, ← wide) in
+          let n : length (opOctets kind o) ≡ 1 + w = omega (arith, length-spelled (widthOf (getD octets q 0)) (getD values q 0), wide, is-w) in
+          let m : p + 1 + w ≡ p + length (opOctets kind o) = omega arith in
+          record {
+            least = omega (arith, h .least);
+            most = omega arith;
+            long = ap length s ∙ length-sets out p (opOctets kind o) ∙ h .long;
+            place = omega (arith, h .place, size-more octets q to e, wide, is-w);
+            stored = rw (s, m, ← sets-append out p (opOctets kind o) (between kind values octets (q + 1) to))
+                (ap (λ os. sets out p (listOctets kind os)) (sym (ops-more values octets q to e)) ∙ h .stored);
+          }

@@ -1,0 +1,43 @@
+-- The octets of a list counted, from a place up to another. Assumes nothing.
+use Prim.Native.Nat.{ℕ, zero, suc, _+_, _-_, _*_, _≤_, _<_}
+use mathlib.Core.Path.{_≡_, refl, sym, _∙_, ap}
+use mathlib.Core.List.{List, [], _∷_}
+use native.Mathlib.Omega.{arith}
+use lib.ListN.{length, getD, length-append}
+use Rattle.octets.specs.Widths.{widthOf}
+use Rattle.octets.proofs.Spells.{length-spelled}
+use Rattle.octets.proofs.Widths.{width-most}
+use Rattle.choices.specs.declared.Kind.{Kind}
+use Rattle.choices.specs.Operators.{op, opsIn, opOctets, listOctets}
+use Rattle.listwriting.specs.Lists.{sizeIn}
+
+-- one operator more, and none left
+pub size-more : (os : List ℕ) (q to : ℕ) → q < to → sizeIn os q (to - q) ≡ 1 + widthOf (getD os q 0) + sizeIn os (q + 1) (to - (q + 1))
+unfolding sizeIn
+size-more os q to h = let e : to - q ≡ suc (to - (q + 1)) = omega arith in rw e
+
+pub size-none : (os : List ℕ) (q to : ℕ) → to ≤ q → sizeIn os q (to - q) ≡ 0
+unfolding sizeIn
+size-none os q to h = let e : to - q ≡ 0 = omega arith in rw e
+
+pub ops-more : (vs os : List ℕ) (q to : ℕ) → q < to → opsIn vs os q (to - q) ≡ op (getD os q 0) (getD vs q 0) ∷ opsIn vs os (q + 1) (to - (q + 1))
+unfolding opsIn
+ops-more vs os q to h = let e : to - q ≡ suc (to - (q + 1)) = omega arith in rw e
+
+pub ops-none : (vs os : List ℕ) (q to : ℕ) → to ≤ q → opsIn vs os q (to - q) ≡ []
+unfolding opsIn
+ops-none vs os q to h = let e : to - q ≡ 0 = omega arith in rw e
+
+-- at most nine octets an operator
+pub size-most : (os : List ℕ) (at n : ℕ) → sizeIn os at n ≤ 9 * n
+unfolding sizeIn
+size-most os at zero = omega arith
+size-most os at (suc n) = omega (arith, width-most (getD os at 0), size-most os (at + 1) n)
+
+-- so many octets are written
+pub length-list : (k : Kind) (vs os : List ℕ) (at n : ℕ) → length (listOctets k (opsIn vs os at n)) ≡ sizeIn os at n
+unfolding sizeIn opsIn listOctets
+length-list k vs os at zero = refl
+length-list k vs os at (suc n) =
+    let e = length-append (opOctets k (op (getD os at 0) (getD vs at 0))) (listOctets k (opsIn vs os (at + 1) n)) in
+    omega (arith, e, length-spelled (widthOf (getD os at 0)) (getD vs at 0), length-list k vs os (at + 1) n)

@@ -1,0 +1,88 @@
+-- `listwriting::size` meets its contract. The invariant: what was counted and what is left are the whole, where each operator's own octet is counted
+-- ahead. Assumes nothing.
+use Prim.Native.Nat.{ℕ, _+_, _-_, _*_, _≤_}
+use mathlib.Core.Path.{_≡_, refl, ap}
+use native.Mathlib.Omega.{arith}
+use lib.ListN.{length, getD}
+use Rattle.octets.specs.Widths.{widthOf}
+use Rattle.octets.proofs.Widths.{width-most}
+use Rattle.listwriting.specs.Lists.{sizeIn}
+use Rattle.listwriting.proofs.Sizes.{size-more, size-none}
+use borrow.Author.Needs.{needs}
+use Rattle.listwriting.proofs.size.Statement.{statement}
+use Rattle.listwriting.proofs.size.Tie as tie
+use Rattle.listwriting.proofs.size.Reads as reads
+use Rattle.listwriting.proofs.size.Lts as lts
+use Rattle.octets.proofs.stride.Reads as stride-reads
+
+abbrev Inv-loop : tie.InvT-loop
+Inv-loop octets from count to n₀ q₀ n q = (to ≡ from + count) × (from ≤ q) × (q ≤ to) × (n ≤ count + 8 * (q - from)) × (n + sizeIn octets q (to - q) ≡ sizeIn octets from count + (to - q))
+
+abbrev μ-loop : tie.MeasureT-loop
+μ-loop octets from count to n₀ q₀ n q = to - q
+
+-- src/lib.rt:24:14
+add-to : tie.Need-add-to Inv-loop μ-loop
+add-to c = search needs
+
+-- src/lib.rt:27:5
+loop-holds : tie.Need-loop-holds Inv-loop μ-loop
+loop-holds c =
+    let a = c .before .args in
+    let e : a .from + a .count - a .from ≡ a .count = omega arith in
+    (refl, omega arith, omega arith, omega arith, rw e (omega arith))
+
+-- src/lib.rt:28:29
+shared-slice-read-stride : tie.Need-shared-slice-read-stride Inv-loop μ-loop
+shared-slice-read-stride c = search needs
+
+-- src/lib.rt:28:14
+stride-requires : tie.Need-stride-requires Inv-loop μ-loop
+stride-requires c κs = search needs
+
+-- src/lib.rt:28:9
+add-n : tie.Need-add-n Inv-loop μ-loop
+add-n c =
+    let l = c .before .before .before in
+    omega (arith, c .stride .ensures, width-most (getD (l .before .before .args .octets .now) (l .loop .q) 0))
+
+-- src/lib.rt:29:9
+add-q : tie.Need-add-q Inv-loop μ-loop
+add-q c = search needs
+
+-- src/lib.rt:27:5
+loop-less : tie.Need-loop-less Inv-loop μ-loop
+loop-less c = search needs
+
+-- src/lib.rt:27:5
+loop-again : tie.Need-loop-again Inv-loop μ-loop
+loop-again c =
+    let l = c .before .before .before in
+    let os = l .before .before .args .octets .now in
+    let w : c .stride .result ≡ widthOf (getD os (l .loop .q) 0) = c .stride .ensures in
+    let a = l .before .before .args in
+    let m = size-more os (l .loop .q) (a .from + a .count) (omega arith) in
+    (l .loop .inv .0, omega arith, omega arith, omega (arith, width-most (getD os (l .loop .q) 0), w), omega (arith, w, m))
+
+-- src/lib.rt:20:1
+returns : tie.Need-returns Inv-loop μ-loop
+returns c =
+    let l = c .before in
+    let a = l .before .before .args in
+    omega (arith, size-none (a .octets .now) (l .loop .q) (a .from + a .count) (omega arith))
+
+pub size-spec : {M : Type 1} → statement M
+size-spec =
+    tie.close
+    (tie.spec
+    Inv-loop
+    μ-loop
+    add-to
+    loop-holds
+    shared-slice-read-stride
+    stride-requires
+    add-n
+    add-q
+    loop-less
+    loop-again
+    returns)

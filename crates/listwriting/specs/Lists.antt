@@ -1,0 +1,29 @@
+-- One list of operators in a writing: how many octets write it, and whether the standard writing takes it. The octets themselves are
+-- `listOctets` of `choices`. Document 01, "Writing"; RFC 8955, 4.2.1.1 and 4.2.1.2. Assumes nothing.
+use Prim.Native.Nat.{ℕ, zero, suc, _+_, _*_, _/_, _%_, _^_}
+use mathlib.Core.List.{List, [], _∷_}
+use mathlib.Core.Bool.{Bool, false, not, _&&_}
+use lib.ListN.{getD}
+use lib.Dec.{eqb, leb, ltb}
+use Rattle.octets.specs.Widths.{widthOf}
+use Rattle.choices.specs.Operators.{Op}
+
+-- the octets of n operators from a place on: one each, and its value's width (`length-list` in proofs/ has the law)
+unfoldable pub sizeIn : List ℕ → ℕ → ℕ → ℕ
+sizeIn octets at zero = 0
+sizeIn octets at (suc n) = 1 + widthOf (getD octets at 0) + sizeIn octets (at + 1) n
+
+-- not "a value too large for its width"
+abbrev pub fitsIn : ℕ → ℕ → Bool
+fitsIn octet value = ltb value (2 ^ (8 * widthOf octet))
+
+-- each value fits, and no "end mark missing on the last operator or set on another"
+unfoldable pub ends : List Op → Bool
+ends [] = false
+ends (o ∷ []) = fitsIn (o .octet) (o .value) && leb 128 (o .octet)
+ends (o ∷ p ∷ os) = fitsIn (o .octet) (o .value) && (not (leb 128 (o .octet)) && ends (p ∷ os))
+
+-- what the standard writing takes: not "an empty list", and no "AND on the first"
+unfoldable pub takes : List Op → Bool
+takes [] = false
+takes (o ∷ os) = not (eqb (o .octet % 128 / 64) 1) && ends (o ∷ os)

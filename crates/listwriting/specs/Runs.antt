@@ -1,0 +1,22 @@
+-- What the loops promise each other: where the writing of a list stands. No public promise rests on this but through `Lists`. Assumes
+-- nothing.
+use Prim.Native.Nat.{ℕ, _+_, _-_, _≤_}
+use mathlib.Core.Path.{_≡_}
+use mathlib.Core.List.{List}
+use lib.ListN.{length}
+use lib.Seq.{sets}
+use Rattle.choices.specs.declared.Kind.{Kind}
+use Rattle.choices.specs.Operators.{opsIn, listOctets}
+use Rattle.listwriting.specs.Lists.{sizeIn}
+
+-- the octets of the operators from a place up to another
+abbrev pub between : Kind → List ℕ → List ℕ → ℕ → ℕ → List ℕ
+between kind values octets from to = listOctets kind (opsIn values octets from (to - from))
+
+-- of the operators up to `to`, which go to `at`, those before q are written: with the others stored at p the output is as it shall be
+pub record Put (kind : Kind) (values octets : List ℕ) (from to at : ℕ) (out₀ out : List ℕ) (q p : ℕ) : Type 0 where
+  pub least : from ≤ q
+  pub most : q ≤ to
+  pub long : length out ≡ length out₀
+  pub place : p + sizeIn octets q (to - q) ≡ at + sizeIn octets from (to - from)
+  pub stored : sets out p (between kind values octets q to) ≡ sets out₀ at (between kind values octets from to)

@@ -1,0 +1,33 @@
+-- Places within the lent lists. Assumes nothing.
+use Prim.Native.Nat.{ℕ, _+_, _-_, _≤_, _<_}
+use mathlib.Core.Path.{_≡_, refl, sym, _∙_}
+use mathlib.Core.Bool.{Bool, true, false, _&&_, _||_}
+use mathlib.Core.List.{List}
+use native.Mathlib.Omega.{arith}
+use borrow.Author.Tests.{eq-eqb, ne-eqb, le-leb, lt-leb, leb-true, leb-false}
+use lib.Dec.{eqb, leb}
+use lib.ListN.{length}
+use Rattle.ground.proofs.Cases.{by-test}
+use Rattle.measuring.specs.Bodies.{Lent}
+use Rattle.measuring.specs.Grounds.{insideOf}
+use Rattle.measuring.proofs.Tests.{both}
+
+-- the last test, where nothing was added
+pub no-sum : (f s n z : ℕ) → n ≤ z → s ≤ z - n → leb f (z - n - s) ≡ leb (f + s + n) z
+no-sum f s n z h k =
+    by-test (leb f (z - n - s))
+    (λ e. e ∙ sym (le-leb (f + s + n) z (omega (arith, leb-true f (z - n - s) e))))
+    (λ e. e ∙ sym (lt-leb (f + s + n) z (omega (arith, leb-false f (z - n - s) e))))
+
+module _ (l : Lent) (start n : ℕ) where
+  pub inside-none : n ≡ 0 → true ≡ insideOf l start n
+  inside-none e = rw (eq-eqb n 0 e)
+
+  module _ (some : n ≡ 0 → ⊥) where
+    pub inside-by : insideOf l start n ≡ (leb (l .first + start + n) (length (l .values)) && leb (l .first + start + n) (length (l .octets)))
+    inside-by = rw (ne-eqb n 0 some)
+
+    pub inside-both : insideOf l start n ≡ true → (l .first + start + n ≤ length (l .values)) × (l .first + start + n ≤ length (l .octets))
+    inside-both e =
+        let b = both _ _ (sym inside-by ∙ e) in
+        (leb-true (l .first + start + n) (length (l .values)) (b .0), leb-true (l .first + start + n) (length (l .octets)) (b .1))

@@ -1,0 +1,4 @@
+pub mod Insides
+pub mod Tests
+pub mod Walks
+pub mod Weights

@@ -1,0 +1,47 @@
+-- Words that are all 0: their bits joined are 0. Assumes nothing.
+use Prim.Native.Nat.{ℕ, suc, _+_, _-_, _≤_, _<_}
+use mathlib.Core.Path.{_≡_, refl, sym, ap, _∙_}
+use mathlib.Core.Bool.{Bool, true, false, _&&_, false≢true}
+use mathlib.Core.List.{List}
+use native.Mathlib.Omega.{arith}
+use borrow.Author.Tests.{eq-eqb, ne-eqb, eqb-true, eqb-false}
+use lib.Bits.{bitOr, bitAnd, or-add-and, and-le-l, and-le-r, or-zero-l}
+use lib.Dec.{eqb}
+use lib.ListN.{getD}
+use Rattle.ground.proofs.Cases.{by-test}
+use Rattle.stored.specs.Stored.{zerosFrom}
+
+none-of : (a b : ℕ) → bitOr a b ≡ 0 → (a ≡ 0) × (b ≡ 0)
+none-of a b e =
+    let s : bitOr a b + bitAnd a b ≡ a + b = or-add-and a b in
+    let l : bitAnd a b ≤ a = and-le-l a b in
+    let r : bitAnd a b ≤ b = and-le-r a b in
+    (omega arith, omega arith)
+
+pub or-none : (a b : ℕ) → eqb (bitOr a b) 0 ≡ (eqb a 0 && eqb b 0)
+or-none a b =
+    by-test (eqb (bitOr a b) 0)
+    (λ e. let n = none-of a b (eqb-true (bitOr a b) 0 e) in e ∙ sym (rw (eq-eqb a 0 (n .0), eq-eqb b 0 (n .1))))
+    (λ e. by-test (eqb a 0)
+    (λ f. e ∙ sym (ap (λ t. t && eqb b 0) f ∙ ne-eqb b 0 (λ g. eqb-false (bitOr a b) 0 e (ap (λ x. bitOr x b) (eqb-true a 0 f) ∙ or-zero-l b ∙ g))))
+    (λ f. e ∙ sym (ap (λ t. t && eqb b 0) f)))
+
+and-assoc : (a b c : Bool) → ((a && b) && c) ≡ (a && (b && c))
+and-assoc true b c = refl
+and-assoc false b c = refl
+
+and-true : (a : Bool) → (a && true) ≡ a
+and-true true = refl
+and-true false = refl
+
+module _ (ws : List ℕ) (sum at to : ℕ) where
+  pub scan-more : at < to → (eqb sum 0 && zerosFrom (to - at) ws at) ≡ (eqb (bitOr sum (getD ws at 0)) 0 && zerosFrom (to - (at + 1)) ws (at + 1))
+  unfolding zerosFrom
+  scan-more h =
+      let e : to - at ≡ suc (to - (at + 1)) = omega arith in
+      ap (λ (k : ℕ). eqb sum 0 && zerosFrom k ws at) e
+      ∙ sym (ap (λ t. t && zerosFrom (to - (at + 1)) ws (at + 1)) (or-none sum (getD ws at 0)) ∙ and-assoc (eqb sum 0) (eqb (getD ws at 0) 0) (zerosFrom (to - (at + 1)) ws (at + 1)))
+
+  pub scan-end : to ≤ at → (eqb sum 0 && zerosFrom (to - at) ws at) ≡ eqb sum 0
+  unfolding zerosFrom
+  scan-end h = let e : to - at ≡ 0 = omega arith in ap (λ (k : ℕ). eqb sum 0 && zerosFrom k ws at) e ∙ and-true (eqb sum 0)

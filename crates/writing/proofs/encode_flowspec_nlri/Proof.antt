@@ -1,0 +1,79 @@
+-- `writing::encode_flowspec_nlri` meets its contract, by what put_rule answers. Assumes nothing.
+use Prim.Native.Nat.{ℕ}
+use mathlib.Core.Path.{_≡_, refl, sym, ap, _∙_}
+use lib.ListN.{length, replicate}
+use Rattle.writing.proofs.Frames.{carried}
+use Rattle.writing.proofs.Values.{value-refused, value-few, value-is}
+use borrow.Author.Needs.{needs}
+use Rattle.writing.proofs.encode_flowspec_nlri.Statement.{statement}
+use Rattle.writing.proofs.encode_flowspec_nlri.Tie as tie
+use Rattle.writing.proofs.encode_flowspec_nlri.Reads as reads
+use Rattle.writing.proofs.encode_flowspec_nlri.Lts as lts
+use Rattle.fitting.proofs.fit_rule.Reads as fit-rule-reads
+use Rattle.stored.proofs.put_rule.Reads as put-rule-reads
+use Rattle.writing.proofs.write_from.Reads as write-from-reads
+
+-- src/lib.rt:163:35
+slice-aggregate-put-rule : tie.Need-slice-aggregate-put-rule
+slice-aggregate-put-rule c = search needs
+
+-- src/lib.rt:163:9
+put-rule-requires : tie.Need-put-rule-requires
+put-rule-requires c κs = search needs
+
+-- src/lib.rt:166:13
+enum-told : tie.Need-enum-told
+enum-told c = search needs
+
+-- src/lib.rt:166:13
+fit-rule-requires : tie.Need-fit-rule-requires
+fit-rule-requires c κs =
+    let s = c .before .before .before in
+    let a = s .before .before .before .before .before .args in
+    value-few (replicate 64 0) (a .nlri) refl (s .put-rule .result) (s .put-rule .ensures .0) (c .enum-told .given .1)
+
+-- src/lib.rt:167:40
+slice-aggregate-write-from : tie.Need-slice-aggregate-write-from
+slice-aggregate-write-from c = search needs
+
+-- src/lib.rt:167:13
+write-from-requires : tie.Need-write-from-requires
+write-from-requires c κs = search needs
+
+-- src/lib.rt:169:25
+enum-known-stored : tie.Need-enum-known-stored
+enum-known-stored c = search needs
+
+-- src/lib.rt:153:1
+same-length : tie.Need-same-length
+same-length c = search needs
+
+-- src/lib.rt:153:1
+returns : tie.Need-returns
+returns c =
+    let f = c .before .before .before .before .before in
+    let s = f .before .before .before .before in
+    let a = s .before .before .before .before .before .args in
+    carried (a .out .now) (value-is (replicate 64 0) (a .nlri) refl (s .put-rule .result) (s .put-rule .ensures .0) (f .before .enum-told .given .1) (f .fit-rule .ensures .0) (f .fit-rule .ensures .1) (a .values .now) (a .octets .now) (length (a .out .now)) (s .put-rule .ensures .1)) (c .before .before .write-from .ensures)
+
+-- src/lib.rt:153:1
+returns-2 : tie.Need-returns-2
+returns-2 c =
+    let s = c .before .before .before .before in
+    let a = s .before .before .before .before .before .args in
+    value-refused (replicate 64 0) (a .nlri) refl (s .put-rule .result) (s .put-rule .ensures .0) (a .values .now) (a .octets .now) (a .out .now) _ (c .before .stored .given .1)
+
+pub encode-flowspec-nlri-spec : {M : Type 1} → statement M
+encode-flowspec-nlri-spec =
+    tie.close
+    (tie.spec
+    slice-aggregate-put-rule
+    put-rule-requires
+    enum-told
+    fit-rule-requires
+    slice-aggregate-write-from
+    write-from-requires
+    enum-known-stored
+    same-length
+    returns
+    returns-2)
