@@ -23,9 +23,9 @@ abbrev pub readAnswer : Answer Taken → KrubbadinAnswer
 readAnswer (accepts t) = record { status = 0; first = t .used; second = t .operators }
 readAnswer (refuses number carried) = refusedWith number carried
 
--- the number that a call is given for a reading: 0 is the plain one, 4 and 6 are the standard ones, any other is BadFamily
-unfoldable pub whichOf : ℕ → Answer Reading
-whichOf number = pick (eqb number 0) (accepts Plain) (standardOf number)
+-- what a call asks for: 0 is the plain reading, any other number the standard one in the family that is given, 4 or 6, else BadFamily
+unfoldable pub whichOf : ℕ → ℕ → Answer Reading
+whichOf standard family = pick (eqb standard 0) (accepts Plain) (standardOf family)
 
 abbrev pub toldWhich : Which → Answer Reading
 toldWhich (Is reading) = accepts reading

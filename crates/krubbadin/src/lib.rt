@@ -47,45 +47,47 @@ fn read_answer(r: ReadInto) -> KrubbadinAnswer
     }
 }
 
-// The reading of a number.
+// The reading, or the writing, that a call asks for.
 pub enum Which {
     Is(Reading),
     Refused(Fault),
 }
 
-fn named_by(number: u8) -> Which
-    ensures { λ r. ⌜ toldWhich r ≡ whichOf number ⌝ }
+fn named_by(standard: u8, family: u8) -> Which
+    ensures { λ r. ⌜ toldWhich r ≡ whichOf standard family ⌝ }
 {
-    if number == 0 {
+    if standard == 0 {
         return Which::Is(Reading::Plain);
     }
-    if number == 4 {
+    if family == 4 {
         return Which::Is(Reading::Ipv4);
     }
-    if number == 6 {
+    if family == 6 {
         return Which::Is(Reading::Ipv6);
     }
     Which::Refused(Fault {
-        error: FlowSpecError::BadFamily(number),
+        error: FlowSpecError::BadFamily(family),
     })
 }
 
-// Reads an NLRI: its rule to the first 64 words, its operators to the two lists. The first number is 0 for the plain reading, 4 or 6 for the
-// standard one in that family. One export for all readings: the reading has one caller then, and the compiler makes one function of both.
+// Reads an NLRI: its rule to the first 64 words, its operators to the two lists. With `standard` 0 it is the
+// plain reading, which looks at no family; else the standard one in the family. One export for all readings: the reading has one caller
+// then, and the compiler makes one function of both.
 #[no_mangle]
 pub extern "C" fn krubbadin_read(
-    number: u8,
+    standard: u8,
+    family: u8,
     input: &[u8],
     words: &mut [u64],
     values: &mut [u64],
     octets: &mut [u8],
 ) -> KrubbadinAnswer
-    ensures answer { λ r. ⌜ r ≡ readAnswer (takenOf (byReading (whichOf number) (now (input .entry)) (length (now (words .entry))) (length (now (values .entry))) (length (now (octets .entry))))) ⌝ }
-    ensures words { λ r. ⌜ now (words .exit) ≡ sets (now (words .entry)) 0 (wordsOf (byReading (whichOf number) (now (input .entry)) (length (now (words .entry))) (length (now (values .entry))) (length (now (octets .entry))))) ⌝ }
-    ensures values { λ r. ⌜ now (values .exit) ≡ sets (now (values .entry)) 0 (map numberOf (operatorsOf (byReading (whichOf number) (now (input .entry)) (length (now (words .entry))) (length (now (values .entry))) (length (now (octets .entry)))))) ⌝ }
-    ensures octets { λ r. ⌜ now (octets .exit) ≡ sets (now (octets .entry)) 0 (map octetOf (operatorsOf (byReading (whichOf number) (now (input .entry)) (length (now (words .entry))) (length (now (values .entry))) (length (now (octets .entry)))))) ⌝ }
+    ensures answer { λ r. ⌜ r ≡ readAnswer (takenOf (byReading (whichOf standard family) (now (input .entry)) (length (now (words .entry))) (length (now (values .entry))) (length (now (octets .entry))))) ⌝ }
+    ensures words { λ r. ⌜ now (words .exit) ≡ sets (now (words .entry)) 0 (wordsOf (byReading (whichOf standard family) (now (input .entry)) (length (now (words .entry))) (length (now (values .entry))) (length (now (octets .entry))))) ⌝ }
+    ensures values { λ r. ⌜ now (values .exit) ≡ sets (now (values .entry)) 0 (map numberOf (operatorsOf (byReading (whichOf standard family) (now (input .entry)) (length (now (words .entry))) (length (now (values .entry))) (length (now (octets .entry)))))) ⌝ }
+    ensures octets { λ r. ⌜ now (octets .exit) ≡ sets (now (octets .entry)) 0 (map octetOf (operatorsOf (byReading (whichOf standard family) (now (input .entry)) (length (now (words .entry))) (length (now (values .entry))) (length (now (octets .entry)))))) ⌝ }
 {
-    match named_by(number) {
+    match named_by(standard, family) {
         Which::Is(reading) => read_answer(reading::read_into(
             reading,
             input,
@@ -110,20 +112,21 @@ fn write_answer(r: Written) -> KrubbadinAnswer
     }
 }
 
-// Writes the rule that stands in the first 64 words, with its operators in the two lists, to the output. The first number is 0 for the plain
-// writing, 4 or 6 for the standard one in that family.
+// Writes the rule that stands in the first 64 words, with its operators in the two lists, to the output. With `standard` 0 it
+// is the plain writing, else the standard one in the family.
 #[no_mangle]
 pub extern "C" fn krubbadin_write(
-    number: u8,
+    standard: u8,
+    family: u8,
     words: &[u64],
     values: &[u64],
     octets: &[u8],
     out: &mut [u8],
 ) -> KrubbadinAnswer
-    ensures answer { λ r. ⌜ r ≡ writtenAnswer (counted (byWriting (whichOf number) (now (words .entry)) (now (values .entry)) (now (octets .entry)) (length (now (out .entry))))) ⌝ }
-    ensures out { λ r. ⌜ now (out .exit) ≡ sets (now (out .entry)) 0 (octetsIn (byWriting (whichOf number) (now (words .entry)) (now (values .entry)) (now (octets .entry)) (length (now (out .entry))))) ⌝ }
+    ensures answer { λ r. ⌜ r ≡ writtenAnswer (counted (byWriting (whichOf standard family) (now (words .entry)) (now (values .entry)) (now (octets .entry)) (length (now (out .entry))))) ⌝ }
+    ensures out { λ r. ⌜ now (out .exit) ≡ sets (now (out .entry)) 0 (octetsIn (byWriting (whichOf standard family) (now (words .entry)) (now (values .entry)) (now (octets .entry)) (length (now (out .entry))))) ⌝ }
 {
-    match named_by(number) {
+    match named_by(standard, family) {
         Which::Is(writing) => write_answer(writing::write_from(
             writing,
             words,

@@ -129,7 +129,7 @@ pub fn write_from(
     write_body(writing, words, count, first, values, octets, out)
 }
 
-// The standard writing in a family.
+// The standard writing in a family, the one that the call names: the family that the rule itself was stored with is not looked at.
 pub fn write(family: u8, words: &[u64], values: &[u64], octets: &[u8], out: &mut [u8]) -> Written
     ensures told { λ r. ⌜ toldWritten r ≡ counted (writtenIn family (now (words .entry)) (now (values .entry)) (now (octets .entry)) (length (now (out .entry)))) ⌝ }
     ensures octets { λ r. ⌜ now (out .exit) ≡ sets (now (out .entry)) 0 (octetsIn (writtenIn family (now (words .entry)) (now (values .entry)) (now (octets .entry)) (length (now (out .entry))))) ⌝ }

@@ -1,0 +1,138 @@
+//! Compares the proved code with Rust; `tools/differential` builds and runs this and says how.
+
+use differential::compare::Comparison;
+use differential::random::Random;
+use differential::stored::Stored;
+use differential::{inputs, records, Form};
+use std::process::ExitCode;
+use std::time::Instant;
+
+const USAGE: &str = "usage: tools/differential [--cases N] [--seed S] [--part plain|standard|all]";
+
+/// A writing is as likely wrong as a reading, but has fewer turns to take.
+const READINGS_TO_A_WRITING: u64 = 5;
+
+struct Wanted {
+    cases: u64,
+    seed: u64,
+    plain: bool,
+    standard: bool,
+}
+
+fn main() -> ExitCode {
+    let arguments: Vec<String> = std::env::args().skip(1).collect();
+    let wanted = match wanted(&arguments) {
+        Some(wanted) => wanted,
+        None => {
+            eprintln!("{USAGE}");
+            return ExitCode::from(2);
+        }
+    };
+    let mut comparison = Comparison::new();
+    if wanted.plain {
+        part(&mut comparison, "plain", &[Form::Plain], &wanted);
+    }
+    if wanted.standard {
+        let forms = [Form::Standard(4), Form::Standard(6)];
+        part(&mut comparison, "standard", &forms, &wanted);
+        other_families(&mut comparison);
+    }
+    println!("the proved code was called {} times", comparison.calls);
+    println!("{}", comparison.last_line());
+    ExitCode::from(u8::from(comparison.differ != 0))
+}
+
+fn wanted(arguments: &[String]) -> Option<Wanted> {
+    let mut wanted = Wanted {
+        cases: 200_000,
+        seed: 1,
+        plain: true,
+        standard: true,
+    };
+    for pair in arguments.chunks(2) {
+        match [pair.first()?.as_str(), pair.get(1)?.as_str()] {
+            ["--cases", number] => wanted.cases = number.parse().ok()?,
+            ["--seed", number] => wanted.seed = number.parse().ok()?,
+            ["--part", part @ ("plain" | "standard" | "all")] => {
+                wanted.plain = part != "standard";
+                wanted.standard = part != "plain";
+            }
+            _ => return None,
+        }
+    }
+    Some(wanted)
+}
+
+/// Readings and writings of these forms: those made by rule, then so many random ones in turn.
+fn part(comparison: &mut Comparison, name: &str, forms: &[Form], wanted: &Wanted) {
+    let mut random = Random::new(wanted.seed);
+    let mut section = Section::new(comparison, name, "readings");
+    for &form in forms {
+        inputs::by_rule(form, &mut |input| section.comparison.reading(form, input));
+    }
+    section.said("made by rule");
+    let mut input = Vec::new();
+    for (_, &form) in (0..wanted.cases).zip(forms.iter().cycle()) {
+        inputs::random(form, &mut random, &mut input);
+        section.comparison.reading(form, &input);
+    }
+    section.said("random");
+
+    let mut section = Section::new(comparison, name, "writings");
+    for &form in forms {
+        records::by_rule(form, &mut |record| section.comparison.writing(form, record));
+    }
+    section.said("made by rule");
+    let mut record = Stored::new(0);
+    for (_, &form) in (0..wanted.cases / READINGS_TO_A_WRITING).zip(forms.iter().cycle()) {
+        records::random(form, &mut random, &mut record);
+        section.comparison.writing(form, &record);
+    }
+    section.said("random");
+}
+
+/// Families that there are not: refused whatever comes with them.
+fn other_families(comparison: &mut Comparison) {
+    let mut random = Random::new(0xF13);
+    let (mut input, mut record) = (Vec::new(), Stored::new(0));
+    let mut section = Section::new(comparison, "standard", "readings and writings");
+    for family in (0..=255).filter(|family| ![4, 6].contains(family)) {
+        for like in [Form::Plain, Form::Standard(4), Form::Standard(6)] {
+            inputs::random(like, &mut random, &mut input);
+            section.comparison.reading(Form::Standard(family), &input);
+            records::random(like, &mut random, &mut record);
+            section.comparison.writing(Form::Standard(family), &record);
+        }
+    }
+    section.said("of other families");
+}
+
+/// A part of the run that is told of in lines of its own.
+struct Section<'a> {
+    comparison: &'a mut Comparison,
+    name: String,
+    compared: u64,
+    began: Instant,
+}
+
+impl<'a> Section<'a> {
+    fn new(comparison: &'a mut Comparison, name: &str, what: &str) -> Self {
+        Section {
+            name: format!("{name} {what}"),
+            compared: comparison.compared,
+            began: Instant::now(),
+            comparison,
+        }
+    }
+
+    /// Prints what was compared since the last time.
+    fn said(&mut self, which: &str) {
+        let compared = self.comparison.compared - self.compared;
+        let seconds = self.began.elapsed().as_secs_f64();
+        let answers = self.comparison.answers();
+        let name = &self.name;
+        println!("{name} {which}: {compared} in {seconds:.1} s ({answers})");
+        self.compared = self.comparison.compared;
+        self.began = Instant::now();
+    }
+}

@@ -1,0 +1,306 @@
+//! One input after another put to the proved code and to its peer, and every answer compared: what
+//! is told, what is filled, and that everything else stays as it was.
+
+use crate::lent::{Lent, Place};
+use crate::stored::{Stored, COUNT, WORDS};
+use crate::{archive, peers, refusal, Answer, Form, LONGEST_INPUT};
+use std::process;
+
+/// After so many differences a run ends.
+const ENOUGH: u64 = 20;
+
+pub struct Comparison {
+    /// Inputs compared, and those that differ.
+    pub compared: u64,
+    pub differ: u64,
+    /// Calls of the proved code: an input is tried with several amounts of room.
+    pub calls: u64,
+    /// Inputs by the status of their answer, room aside.
+    answers: [u64; 16],
+    words: Lent<u64>,
+    values: Lent<u64>,
+    octets: Lent<u8>,
+    output: Lent<u8>,
+    stored: Stored,
+    written: Vec<u8>,
+}
+
+impl Comparison {
+    pub fn new() -> Self {
+        Comparison {
+            compared: 0,
+            differ: 0,
+            calls: 0,
+            answers: [0; 16],
+            words: Lent::new(),
+            values: Lent::new(),
+            octets: Lent::new(),
+            output: Lent::new(),
+            stored: Stored::new(0),
+            written: Vec::new(),
+        }
+    }
+
+    /// How many inputs had each answer since this was last asked.
+    pub fn answers(&mut self) -> String {
+        let answers = std::mem::take(&mut self.answers);
+        let met = answers.iter().enumerate().filter(|(_, &times)| times != 0);
+        let told = met.map(|(status, times)| match status {
+            0 => format!("accepted {times}"),
+            _ => format!("refusal {status} {times}"),
+        });
+        told.collect::<Vec<_>>().join(", ")
+    }
+
+    pub fn last_line(&self) -> String {
+        format!("{} compared, {} differ", self.compared, self.differ)
+    }
+
+    /// Compares a reading: with room to spare, with just enough and with too little. Where the input
+    /// is refused, room does not matter.
+    pub fn reading(&mut self, form: Form, input: &[u8]) {
+        let turn = self.compared as usize;
+        self.compared += 1;
+        let answer = peers::read(form, input, &mut self.stored);
+        self.answers[answer.status as usize % 16] += 1;
+        if !answer.is_accepted() {
+            let lent = [
+                room(64, 0, 0),
+                room(67, 3, 3),
+                room(63, 0, 9),
+                room(0, 40, 2),
+            ][turn % 4];
+            self.same_reading(form, input, answer, lent);
+            return;
+        }
+        let needed = self.stored.values.len();
+        let less = needed.saturating_sub(1);
+        let lent = [
+            room(67, needed + 3, needed + 3),
+            room(64, needed, needed),
+            [room(64, needed + 2, needed), room(67, needed, needed + 2)][turn % 2],
+            [
+                room(64, less, needed + 1),
+                room(64, needed + 1, less),
+                room(67, less, less),
+                room(63, needed, needed),
+                room(64, 0, needed),
+                room(67, needed, 0),
+                room(64, 0, 0),
+                room(0, 0, 0),
+            ][turn % 8],
+        ];
+        for lent in lent {
+            if !self.same_reading(form, input, answer, lent) {
+                return;
+            }
+        }
+    }
+
+    /// Whether the proved reading, lent so much, answers so, but for NoRoom, and leaves the lists so.
+    fn same_reading(&mut self, form: Form, input: &[u8], answer: Answer, room: Room) -> bool {
+        self.calls += 1;
+        let turn = self.calls;
+        let found = archive::read(
+            form,
+            input,
+            self.words.lend(room.words, turn),
+            self.values.lend(room.values, turn),
+            self.octets.lend(room.octets, turn),
+        );
+        let wanted = match answer.status {
+            0 => room.answer(answer),
+            _ => answer,
+        };
+        let stored = &self.stored;
+        let (front, values, octets) = match wanted.status {
+            0 => (&stored.words[..], &stored.values[..], &stored.octets[..]),
+            _ => (&[][..], &[][..], &[][..]),
+        };
+        let wrong = [
+            self.words.wrong(front),
+            self.values.wrong(values),
+            self.octets.wrong(octets),
+        ];
+        if found == wanted && wrong == [None; 3] {
+            return true;
+        }
+        let mut text = format!("differ: {form} reading of {}\n", hex(input));
+        let Room {
+            words,
+            values,
+            octets,
+        } = room;
+        text += &format!("  lent: {words} words, {values} values, {octets} octets\n");
+        let lists = (self.words.list(), self.values.list(), self.octets.list());
+        text += &format!("  proved: {}\n", reading_text(found, lists));
+        let lists = (&stored.words[..], &stored.values[..], &stored.octets[..]);
+        text += &format!("  wanted: {}\n", reading_text(wanted, lists));
+        for (list, place) in ["words", "values", "octets"].iter().zip(wrong) {
+            text += &place.map_or(String::new(), |place| wrong_text(list, place));
+        }
+        self.difference(&text);
+        false
+    }
+
+    /// Compares a writing, with room as in `reading`.
+    pub fn writing(&mut self, form: Form, record: &Stored) {
+        let turn = self.compared as usize;
+        self.compared += 1;
+        let answer = peers::write(form, record, &mut self.written);
+        self.answers[answer.status as usize % 16] += 1;
+        if !answer.is_accepted() {
+            let room = [0, 3, LONGEST_INPUT + 8, 64][turn % 4];
+            self.same_writing(form, record, answer, room);
+            return;
+        }
+        let needed = self.written.len();
+        let enough = [needed + 5, needed];
+        let same = |room| self.same_writing(form, record, answer, room);
+        if !enough.into_iter().all(same) {
+            return;
+        }
+        let short = [needed - 1, [0, needed / 2, 1][turn % 3].min(needed - 1)];
+        let answer = Answer::refused(refusal::NO_ROOM, needed as u64, 0);
+        let same = |room| self.same_writing(form, record, answer, room);
+        short.into_iter().all(same);
+    }
+
+    /// Whether the proved writing, lent so many octets, answers so and leaves them so.
+    fn same_writing(&mut self, form: Form, record: &Stored, wanted: Answer, room: usize) -> bool {
+        self.calls += 1;
+        let turn = self.calls;
+        let own = record.words.len();
+        // Behind the rule's own words may stand another's.
+        let behind = [0, 3][turn as usize % 2].min(own / WORDS * 3);
+        let words = self.words.lend(own + behind, turn);
+        words[..own].copy_from_slice(&record.words);
+        let output = self.output.lend(room, turn);
+        let found = archive::write(form, words, &record.values, &record.octets, output);
+        let octets = match wanted.status {
+            0 => &self.written[..],
+            _ => &[],
+        };
+        let wrong = self.output.wrong(octets);
+        if found == wanted && wrong.is_none() {
+            return true;
+        }
+        let mut text = format!(
+            "differ: {form} writing of {}\n  lent: {room} octets\n",
+            record_text(&record.words, &record.values, &record.octets)
+        );
+        text += &format!("  proved: {}\n", writing_text(found, self.output.list()));
+        text += &format!("  wanted: {}\n", writing_text(wanted, &self.written));
+        text += &wrong.map_or(String::new(), |place| wrong_text("output", place));
+        self.difference(&text);
+        false
+    }
+
+    fn difference(&mut self, text: &str) {
+        print!("{text}");
+        self.differ += 1;
+        if self.differ == ENOUGH {
+            println!("{ENOUGH} are enough");
+            println!("{}", self.last_line());
+            process::exit(1);
+        }
+    }
+}
+
+/// What a reading is lent.
+#[derive(Clone, Copy)]
+struct Room {
+    words: usize,
+    values: usize,
+    octets: usize,
+}
+
+fn room(words: usize, values: usize, octets: usize) -> Room {
+    Room {
+        words,
+        values,
+        octets,
+    }
+}
+
+impl Room {
+    /// An acceptance, or NoRoom with the first thing that is short: a place for a rule, which is
+    /// 64 words, or places for its operators.
+    fn answer(self, accepted: Answer) -> Answer {
+        let operators = self.values.min(self.octets) as u64;
+        if self.words < WORDS {
+            Answer::refused(refusal::NO_ROOM, 1, 0)
+        } else if operators < accepted.second {
+            Answer::refused(refusal::NO_ROOM, accepted.second, 0)
+        } else {
+            accepted
+        }
+    }
+}
+
+impl Default for Comparison {
+    fn default() -> Self {
+        Comparison::new()
+    }
+}
+
+fn reading_text(answer: Answer, lists: (&[u64], &[u64], &[u8])) -> String {
+    if !answer.is_accepted() {
+        return refusal_text(answer);
+    }
+    let (words, values, octets) = lists;
+    let operators = front(values, answer.second);
+    let record = record_text(
+        front(words, WORDS as u64),
+        operators,
+        front(octets, answer.second),
+    );
+    let (used, operators) = (answer.first, answer.second);
+    format!("accepted, used {used}, operators {operators}, {record}")
+}
+
+fn writing_text(answer: Answer, output: &[u8]) -> String {
+    if !answer.is_accepted() {
+        return refusal_text(answer);
+    }
+    let octets = hex(front(output, answer.first));
+    format!("accepted ({}, {}), {octets}", answer.first, answer.second)
+}
+
+fn refusal_text(answer: Answer) -> String {
+    let Answer {
+        status,
+        first,
+        second,
+    } = answer;
+    format!("refusal {status} ({first}, {second})")
+}
+
+/// The words in groups of four, those of nothing but 0 left out, then the two lists.
+fn record_text(words: &[u64], values: &[u64], octets: &[u8]) -> String {
+    let group = |(place, group): (usize, &[u64])| {
+        let shown = 4 * place == COUNT || group.iter().any(|&word| word != 0);
+        let numbers: Vec<String> = group.iter().map(|word| format!("{word:X}")).collect();
+        shown.then(|| format!("{place}:[{}]", numbers.join(" ")))
+    };
+    let groups: Vec<String> = words.chunks(4).enumerate().filter_map(group).collect();
+    let values: Vec<String> = values.iter().map(|value| format!("{value:X}")).collect();
+    let (groups, values) = (groups.join(" "), values.join(" "));
+    format!("words {groups} values [{values}] octets {}", hex(octets))
+}
+
+fn wrong_text(list: &str, place: isize) -> String {
+    format!("  {list}: place {place} is not as it must be\n")
+}
+
+fn hex(octets: &[u8]) -> String {
+    if octets.is_empty() {
+        return "-".to_string();
+    }
+    octets.iter().map(|octet| format!("{octet:02X}")).collect()
+}
+
+/// At most so many of the list.
+fn front<T: Place>(list: &[T], count: u64) -> &[T] {
+    &list[..list.len().min(count as usize)]
+}

@@ -1,0 +1,87 @@
+//! The proved code beside Rust, in one process.
+//!
+//! `archive` calls the proved code through its C surface, `peers` has what must come back: by the
+//! original Rust (`oracle`) for the plain reading and writing, by `standard` for the others.
+//! `inputs` and `records` make what both are asked, `compare` asks it and compares. A rule crosses
+//! the surface as words; `stored` knows that form. `src/bin` has the two programs.
+
+pub mod archive;
+pub mod compare;
+pub mod inputs;
+pub mod lent;
+pub mod peers;
+pub mod random;
+pub mod records;
+pub mod stored;
+
+/// Which reading and writing is meant.
+#[derive(Debug, Clone, Copy, PartialEq, Eq)]
+pub enum Form {
+    /// As the original Rust does it.
+    Plain,
+    /// By the RFCs, with the family that is asked for: 4, 6, or another, which is refused.
+    Standard(u8),
+}
+
+impl std::fmt::Display for Form {
+    fn fmt(&self, f: &mut std::fmt::Formatter<'_>) -> std::fmt::Result {
+        match self {
+            Form::Plain => write!(f, "plain"),
+            Form::Standard(family) => write!(f, "standard (family {family})"),
+        }
+    }
+}
+
+/// What a call answers: status 0 with what was found, or a refusal's number with what it carries.
+#[repr(C)]
+#[derive(Debug, Clone, Copy, PartialEq, Eq)]
+pub struct Answer {
+    pub status: u64,
+    pub first: u64,
+    pub second: u64,
+}
+
+/// Refusals by document 01's numbers, as far as they are met here.
+pub mod refusal {
+    pub const INSUFFICIENT_DATA: u64 = 1;
+    pub const INVALID_COMPONENT_ORDER: u64 = 2;
+    pub const INVALID_COMPONENT_TYPE: u64 = 3;
+    pub const INVALID_PREFIX: u64 = 4;
+    pub const INVALID_OPERATOR: u64 = 5;
+    pub const INVALID_VALUE_LENGTH: u64 = 6;
+    pub const VALUE_TOO_LARGE: u64 = 7;
+    pub const INPUT_TOO_LONG: u64 = 8;
+    pub const NO_ROOM: u64 = 9;
+    pub const BAD_RECORD: u64 = 10;
+    pub const BAD_FAMILY: u64 = 11;
+}
+
+impl Answer {
+    pub fn accepted(first: usize, second: usize) -> Self {
+        Answer {
+            status: 0,
+            first: first as u64,
+            second: second as u64,
+        }
+    }
+
+    pub fn refused(status: u64, first: u64, second: u64) -> Self {
+        Answer {
+            status,
+            first,
+            second,
+        }
+    }
+
+    pub fn is_accepted(&self) -> bool {
+        self.status == 0
+    }
+}
+
+/// The longest input of the plain reading: two octets of length and the longest body.
+pub const LONGEST_INPUT: usize = 4097;
+/// The longest body.
+pub const LONGEST_BODY: usize = 4095;
+/// The most components and operators that a record may have.
+pub const MOST_COMPONENTS: usize = 13;
+pub const MOST_OPERATORS: usize = 2047;

@@ -1,0 +1,152 @@
+//! The standard reading.
+
+use crate::{is_ipv6_range, kind_of, width, without_reserved};
+use crate::{Address, Component, Content, Operator, Prefix, Rule};
+use crate::{Family, Kind, Refusal, AND, END};
+
+/// A rule that was read, and how many octets of the input its length field and its body took.
+#[derive(Debug, Clone, PartialEq, Eq)]
+pub struct Reading {
+    pub rule: Rule,
+    pub used: usize,
+}
+
+/// Reads the rule at the front of the input. The family is 4 or 6.
+pub fn read(family: u8, input: &[u8]) -> Result<Reading, Refusal> {
+    let family = Family::of(family)?;
+    let mut input = Octets(input);
+    let before = input.0.len();
+    let length = read_length(&mut input)?;
+    let body = input.take(length)?;
+    let used = before - input.0.len();
+    let components = read_body(family, Octets(body))?;
+    Ok(Reading {
+        rule: Rule { components },
+        used,
+    })
+}
+
+/// Octets still to be read. All that are asked for are there, or the rule is refused.
+struct Octets<'a>(&'a [u8]);
+
+impl<'a> Octets<'a> {
+    fn take(&mut self, count: usize) -> Result<&'a [u8], Refusal> {
+        if count > self.0.len() {
+            return Err(Refusal::InsufficientData);
+        }
+        let (taken, rest) = self.0.split_at(count);
+        self.0 = rest;
+        Ok(taken)
+    }
+
+    fn one(&mut self) -> Result<u8, Refusal> {
+        Ok(self.take(1)?[0])
+    }
+}
+
+/// RFC 8955, 4.1: one octet below 240, else twelve bits behind a first F.
+fn read_length(octets: &mut Octets) -> Result<usize, Refusal> {
+    let first = usize::from(octets.one()?);
+    if first < 240 {
+        return Ok(first);
+    }
+    let second = usize::from(octets.one()?);
+    Ok((first & 0x0F) * 256 + second)
+}
+
+/// RFC 8955, 4.2: components to the end of the body, each type above the one before.
+fn read_body(family: Family, mut body: Octets) -> Result<Vec<Component>, Refusal> {
+    let mut components = Vec::new();
+    let mut previous = 0;
+    while !body.0.is_empty() {
+        let found = body.one()?;
+        if found <= previous {
+            return Err(Refusal::InvalidComponentOrder { previous, found });
+        }
+        let kind = kind_of(family, found).ok_or(Refusal::InvalidComponentType(found))?;
+        let content = match (kind, family) {
+            (Kind::Prefix, Family::Ipv4) => Content::Prefix(read_ipv4(&mut body)?),
+            (Kind::Prefix, Family::Ipv6) => Content::Prefix(read_ipv6(&mut body)?),
+            _ => Content::List(read_list(kind, &mut body)?),
+        };
+        components.push(Component {
+            kind: found,
+            content,
+        });
+        previous = found;
+    }
+    Ok(components)
+}
+
+/// RFC 8955, 4.2.2.1: the length in bits, then the octets that hold so many.
+fn read_ipv4(octets: &mut Octets) -> Result<Prefix, Refusal> {
+    let length = octets.one()?;
+    if length > 32 {
+        return Err(Refusal::InvalidPrefix);
+    }
+    let pattern = octets.take(octets_for(length))?;
+    let mut address = 0;
+    for bit in 0..length {
+        if is_set(pattern, bit) {
+            address |= 1 << (31 - bit);
+        }
+    }
+    Ok(Prefix {
+        address: Address::Ipv4(address),
+        length,
+        offset: None,
+    })
+}
+
+/// RFC 8956, 3.1: the length, the offset, then the address bits from the offset up to the length.
+/// The pattern begins at the front of its first octet; what pads its last is ignored.
+fn read_ipv6(octets: &mut Octets) -> Result<Prefix, Refusal> {
+    let length = octets.one()?;
+    let offset = octets.one()?;
+    if !is_ipv6_range(length, offset) {
+        return Err(Refusal::InvalidPrefix);
+    }
+    let bits = length - offset;
+    let pattern = octets.take(octets_for(bits))?;
+    let mut address = 0;
+    for bit in 0..bits {
+        if is_set(pattern, bit) {
+            address |= 1 << (127 - offset - bit);
+        }
+    }
+    Ok(Prefix {
+        address: Address::Ipv6(address),
+        length,
+        offset: Some(offset),
+    })
+}
+
+/// RFC 8955, 4.2.1: operators with their values up to the one that has the end bit. Reserved bits
+/// are ignored, and so is AND on the first, which has none before it.
+fn read_list(kind: Kind, octets: &mut Octets) -> Result<Vec<Operator>, Refusal> {
+    let mut list = Vec::new();
+    loop {
+        let mut octet = without_reserved(kind, octets.one()?);
+        if list.is_empty() {
+            octet &= !AND;
+        }
+        let mut value = 0;
+        for &next in octets.take(width(octet))? {
+            value = value << 8 | u64::from(next);
+        }
+        list.push(Operator { octet, value });
+        if octet & END != 0 {
+            return Ok(list);
+        }
+    }
+}
+
+/// How many octets hold so many bits.
+fn octets_for(bits: u8) -> usize {
+    (usize::from(bits) + 7) / 8
+}
+
+/// Whether a bit is set, counted from the front.
+fn is_set(pattern: &[u8], bit: u8) -> bool {
+    pattern[usize::from(bit / 8)] & (0x80 >> (bit % 8)) != 0
+}
