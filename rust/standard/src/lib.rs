@@ -1,8 +1,8 @@
 //! FlowSpec rules read and written as RFC 8955 (IPv4) and RFC 8956 (IPv6) say.
 //!
 //! The proved standard reading and writing are compared with this. It follows the project's scope
-//! ("document 01") and, by the sections cited, what is known of the RFCs there, whose texts were not
-//! at hand; nothing in it is taken from the proved code or from bgpkit-parser. It is meant to be
+//! ("document 01") and the RFCs by the sections that are cited;
+//! nothing in it is taken from the proved code or from bgpkit-parser. It is meant to be
 //! read rather than to be fast: address bits are moved one at a time. It allocates what it answers,
 //! so refusal 9, NoRoom, has no counterpart here.
 
