@@ -15,6 +15,8 @@ use refusals::Fault;
 use refusals::FlowSpecError;
 use writing::Written;
 
+mod single;
+
 // What a call answers: status 0 and what it gives, or the refusal's number and what it carries, 0 where there is nothing to tell.
 #[repr(C)]
 pub struct KrubbadinAnswer {

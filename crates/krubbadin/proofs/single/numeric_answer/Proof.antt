@@ -1,0 +1,47 @@
+-- `krubbadin::single::numeric_answer` meets its contract, by the answer. Assumes nothing.
+use Rattle.krubbadin.specs.Single.{numericAnswer}
+use Rattle.operators.specs.Operators.{numericTold}
+use Rattle.operators.specs.declared.NumericRead.{NumericRead}
+use mathlib.Core.Path.{sym, ap, _∙_}
+use borrow.Author.Needs.{needs}
+use Rattle.krubbadin.proofs.single.numeric_answer.Statement.{statement}
+use Rattle.krubbadin.proofs.single.numeric_answer.Tie as tie
+use Rattle.krubbadin.proofs.single.numeric_answer.Reads as reads
+use Rattle.krubbadin.proofs.single.numeric_answer.Lts as lts
+use Rattle.krubbadin.proofs.single.no_operator.Reads as no-operator-reads
+use Rattle.krubbadin.proofs.single.numeric_numbers.Reads as numeric-numbers-reads
+
+-- src/single.rt:83:31
+enum-known-r : tie.Need-enum-known-r
+enum-known-r c = search needs
+
+-- src/single.rt:83:37
+numeric-numbers-requires : tie.Need-numeric-numbers-requires
+numeric-numbers-requires c κs = search needs
+
+-- src/single.rt:84:30
+enum-known-r-2 : tie.Need-enum-known-r-2
+enum-known-r-2 c = search needs
+
+-- src/single.rt:84:40
+no-operator-requires : tie.Need-no-operator-requires
+no-operator-requires c κs = search needs
+
+-- src/single.rt:79:1
+returns : tie.Need-returns
+returns c = c .numeric-numbers .ensures ∙ sym (ap (λ (x : NumericRead). numericAnswer (numericTold x)) (c .before .before .r .given .1))
+
+-- src/single.rt:79:1
+returns-2 : tie.Need-returns-2
+returns-2 c = c .no-operator .ensures ∙ sym (ap (λ (x : NumericRead). numericAnswer (numericTold x)) (c .before .before .r2 .given .1))
+
+pub numeric-answer-spec : {M : Type 1} → statement M
+numeric-answer-spec =
+    tie.close
+    (tie.spec
+    enum-known-r
+    numeric-numbers-requires
+    enum-known-r-2
+    no-operator-requires
+    returns
+    returns-2)
