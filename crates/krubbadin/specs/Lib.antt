@@ -1,2 +1,3 @@
 pub mod Surface
 pub mod Single
+pub mod Deciding

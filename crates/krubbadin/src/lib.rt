@@ -15,6 +15,7 @@ use refusals::Fault;
 use refusals::FlowSpecError;
 use writing::Written;
 
+mod deciding;
 mod single;
 
 // What a call answers: status 0 and what it gives, or the refusal's number and what it carries, 0 where there is nothing to tell.

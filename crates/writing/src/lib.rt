@@ -38,8 +38,8 @@ fn all_zero(words: &[u64], from: usize, to: usize) -> bool
     sum == 0
 }
 
-// Whether all but the components of a rule's words is as it shall be. The walk over the components tests those.
-fn is_framed(words: &[u64]) -> bool
+// Whether all but the components of a rule's words is as it shall be. The walk over the components tests those. No entry point.
+pub fn is_framed(words: &[u64]) -> bool
     requires { ⌜ 64 ≤ length (now words) ⌝ }
     ensures { λ r. ⌜ r ≡ framed (now (words .entry)) ⌝ }
 {

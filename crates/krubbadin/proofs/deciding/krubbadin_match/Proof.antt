@@ -1,0 +1,33 @@
+-- `krubbadin::deciding::krubbadin_match` meets its contract. Assumes nothing.
+use Rattle.krubbadin.specs.Deciding.{matchAnswer}
+use Rattle.verdicts.specs.Verdicts.{matchVerdict}
+use Rattle.packets.specs.declared.Packet.{Packet}
+use mathlib.Core.Path.{ap, _∙_}
+use borrow.Author.Needs.{needs}
+use Rattle.krubbadin.proofs.deciding.krubbadin_match.Statement.{statement}
+use Rattle.krubbadin.proofs.deciding.krubbadin_match.Tie as tie
+use Rattle.krubbadin.proofs.deciding.krubbadin_match.Reads as reads
+use Rattle.krubbadin.proofs.deciding.krubbadin_match.Lts as lts
+use Rattle.krubbadin.proofs.deciding.match_answer.Reads as match-answer-reads
+use Rattle.packets.proofs.packet_at.Reads as packet-at-reads
+use Rattle.verdicts.proofs.matches.Reads as matches-reads
+
+-- src/deciding.rt:51:9
+packet-at-requires : tie.Need-packet-at-requires
+packet-at-requires c κs = search needs
+
+-- src/deciding.rt:47:18
+matches-requires : tie.Need-matches-requires
+matches-requires c κs = search needs
+
+-- src/deciding.rt:47:5
+match-answer-requires : tie.Need-match-answer-requires
+match-answer-requires c κs = search needs
+
+-- src/deciding.rt:38:1
+returns : tie.Need-returns
+returns c = let g = c .before .before .before .before .before .before .before .args in c .match-answer .ensures ∙ ap matchAnswer (c .before .matches .ensures ∙ ap (λ (p : Packet). matchVerdict (g .words .now) (g .values .now) (g .octets .now) p) (c .before .before .packet-at .ensures))
+
+pub krubbadin-match-spec : {M : Type 1} → statement M
+krubbadin-match-spec =
+    tie.close (tie.spec packet-at-requires matches-requires match-answer-requires returns)

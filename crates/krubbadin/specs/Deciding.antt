@@ -1,0 +1,28 @@
+-- What the exported functions on stored rules answer: the definitions' answers in three numbers. Assumes nothing.
+use Prim.Native.Nat.{ℕ}
+use mathlib.Core.Bool.{Bool}
+use mathlib.Core.List.{List}
+use Rattle.ground.specs.Answers.{Answer, accepts, refuses}
+use Rattle.operators.specs.Operators.{weightOf}
+use Rattle.ranking.specs.declared.Order.{Order}
+use Rattle.ranking.specs.declared.Order.the-variants.{Precedes, Equal, Follows}
+use Rattle.krubbadin.specs.declared.KrubbadinAnswer.{KrubbadinAnswer}
+use Rattle.krubbadin.specs.Surface.{refusedWith}
+
+abbrev pub givenWith : ℕ → ℕ → KrubbadinAnswer
+givenWith first second = record { status = 0; first = first; second = second }
+
+-- 1 it matches, 0 it does not
+abbrev pub matchAnswer : Answer Bool → KrubbadinAnswer
+matchAnswer (accepts b) = givenWith (weightOf b 1) 0
+matchAnswer (refuses number carried) = refusedWith number carried
+
+-- 1 the first precedes, 2 the second does
+abbrev pub orderNumber : Order → ℕ
+orderNumber Equal = 0
+orderNumber Precedes = 1
+orderNumber Follows = 2
+
+abbrev pub rankAnswer : Answer Order → KrubbadinAnswer
+rankAnswer (accepts o) = givenWith (orderNumber o) 0
+rankAnswer (refuses number carried) = refusedWith number carried

@@ -1,0 +1,6 @@
+pub mod Formed
+pub mod Insides
+pub mod Once
+pub mod Rooms
+pub mod Shifts
+pub mod Ways

@@ -1,0 +1,81 @@
+-- `verdicts::rank` meets its contract: the tests in turn. Assumes nothing.
+use mathlib.Core.Path.{_≡_, sym, _∙_}
+use mathlib.Core.Bool.{true}
+use native.Mathlib.Omega.{arith}
+use borrow.Author.Tests.{not-true, not-false, eq-eqb, ne-eqb}
+use Rattle.ranking.specs.Ranks.{Rankable}
+use Rattle.verdicts.specs.Verdicts.{wellFormed, rankVerdict}
+use Rattle.verdicts.proofs.Formed.{rankable}
+use borrow.Author.Needs.{needs}
+use Rattle.verdicts.proofs.rank.Statement.{statement}
+use Rattle.verdicts.proofs.rank.Tie as tie
+use Rattle.verdicts.proofs.rank.Reads as reads
+use Rattle.verdicts.proofs.rank.Lts as lts
+use Rattle.ranking.proofs.compare_rules.Reads as compare-rules-reads
+use Rattle.verdicts.proofs.well_formed.Reads as well-formed-reads
+
+well-formed-requires : tie.Need-well-formed-requires
+well-formed-requires c κs = search needs
+
+returns : tie.Need-returns
+unfolding rankVerdict
+returns c = rw (sym (c .before .well-formed .ensures) ∙ not-true _ (c .if1 .taken))
+
+-- past the test of the first rule, and of the second
+formed : (c : tie.Else1) → let g = c .before .before .before .before .before .before .before .before .args in wellFormed (g .words .now) (g .values .now) (g .octets .now) 0 ≡ true
+formed c = sym (c .before .well-formed .ensures) ∙ not-false _ (c .if1 .left)
+
+formed2 : (c : tie.Else2) → let g = c .before .before .before .before .before .before .before .before .before .before .args in wellFormed (g .words2 .now) (g .values2 .now) (g .octets2 .now) 0 ≡ true
+formed2 c = sym (c .before .well-formed2 .ensures) ∙ not-false _ (c .if2 .left)
+
+ready : (c : tie.Else2) → let g = c .before .before .before .before .before .before .before .before .before .before .args in Rankable (g .words .now) 0 (g .values .now) (g .octets .now)
+ready c =
+    let g = c .before .before .before .before .before .before .before .before .before .before .args in
+    rankable (g .words .now) (g .values .now) (g .octets .now) 0 (formed (c .before .before))
+
+ready2 : (c : tie.Else2) → let g = c .before .before .before .before .before .before .before .before .before .before .args in Rankable (g .words2 .now) 0 (g .values2 .now) (g .octets2 .now)
+ready2 c =
+    let g = c .before .before .before .before .before .before .before .before .before .before .args in
+    rankable (g .words2 .now) (g .values2 .now) (g .octets2 .now) 0 (formed2 c)
+
+well-formed-requires-2 : tie.Need-well-formed-requires-2
+well-formed-requires-2 c κs = search needs
+
+returns-2 : tie.Need-returns-2
+unfolding rankVerdict
+returns-2 c = rw (formed (c .before .before), sym (c .before .well-formed2 .ensures) ∙ not-true _ (c .if2 .taken))
+
+shared-slice-read-if3 : tie.Need-shared-slice-read-if3
+shared-slice-read-if3 c = let r = ready (c .before) in omega (arith, r .whole)
+
+shared-slice-read-if3-2 : tie.Need-shared-slice-read-if3-2
+shared-slice-read-if3-2 c = let r = ready2 (c .before .before) in omega (arith, r .whole)
+
+returns-3 : tie.Need-returns-3
+unfolding rankVerdict
+returns-3 c =
+    let d = c .before .before .before in
+    rw (formed (d .before .before), formed2 d, ne-eqb _ _ (c .if3 .taken))
+
+compare-rules-requires : tie.Need-compare-rules-requires
+compare-rules-requires c κs = let d = c .before .before .before in (ready d, ready2 d)
+
+returns-4 : tie.Need-returns-4
+unfolding rankVerdict
+returns-4 c =
+    let d = c .before .before .before .before in
+    rw (formed (d .before .before), formed2 d, eq-eqb _ _ (c .before .if3 .left), c .compare-rules .ensures)
+
+pub rank-spec : {M : Type 1} → statement M
+rank-spec =
+    tie.close
+    (tie.spec
+    well-formed-requires
+    returns
+    well-formed-requires-2
+    returns-2
+    shared-slice-read-if3
+    shared-slice-read-if3-2
+    returns-3
+    compare-rules-requires
+    returns-4)
