@@ -6,6 +6,7 @@ use Rattle.ground.specs.Answers.{Answer, accepts, refuses}
 use Rattle.operators.specs.Operators.{weightOf}
 use Rattle.ranking.specs.declared.Order.{Order}
 use Rattle.ranking.specs.declared.Order.the-variants.{Precedes, Equal, Follows}
+use Rattle.choosing.specs.Choosing.{Choice, place, none}
 use Rattle.krubbadin.specs.declared.KrubbadinAnswer.{KrubbadinAnswer}
 use Rattle.krubbadin.specs.Surface.{refusedWith}
 
@@ -26,3 +27,9 @@ orderNumber Follows = 2
 abbrev pub rankAnswer : Answer Order → KrubbadinAnswer
 rankAnswer (accepts o) = givenWith (orderNumber o) 0
 rankAnswer (refuses number carried) = refusedWith number carried
+
+-- 1 and the place of the rule that decides; 0 where none matches
+abbrev pub choiceAnswer : Answer Choice → KrubbadinAnswer
+choiceAnswer (accepts (place i)) = givenWith 1 i
+choiceAnswer (accepts none) = givenWith 0 0
+choiceAnswer (refuses number carried) = refusedWith number carried

@@ -3,8 +3,10 @@ ghost use mathlib.Core.Path.{_≡_};
 ghost use Rattle.operators.specs.Operators.{weightOf};
 ghost use Rattle.packets.specs.Packets.{packetAt};
 ghost use Rattle.verdicts.specs.Verdicts.{matchVerdict, rankVerdict, toldMatched, toldRanked};
-ghost use Rattle.krubbadin.specs.Deciding.{givenWith, orderNumber, matchAnswer, rankAnswer};
+ghost use Rattle.choosing.specs.Choosing.{table, chosenIn, toldChosen};
+ghost use Rattle.krubbadin.specs.Deciding.{givenWith, orderNumber, matchAnswer, rankAnswer, choiceAnswer};
 use crate::KrubbadinAnswer;
+use choosing::Chosen;
 use ranking::Order;
 use verdicts::Matched;
 use verdicts::Ranked;
@@ -79,4 +81,28 @@ pub extern "C" fn krubbadin_rank(
     ensures { λ r. ⌜ r ≡ rankAnswer (rankVerdict (now (words .entry)) (now (values .entry)) (now (octets .entry)) (now (words2 .entry)) (now (values2 .entry)) (now (octets2 .entry))) ⌝ }
 {
     rank_answer(verdicts::rank(words, values, octets, words2, values2, octets2))
+}
+
+fn choice_answer(r: Chosen) -> KrubbadinAnswer
+    ensures { λ a. ⌜ a ≡ choiceAnswer (toldChosen r) ⌝ }
+{
+    match r {
+        Chosen::Rule(place) => given(1, place as u64),
+        Chosen::NoRule => given(0, 0),
+        Chosen::Refused(fault) => crate::refused(fault),
+    }
+}
+
+// Which rule decides on a packet. The rules are in the words, 64 words each, and the operators of all of them in the two lists. First 1 and
+// then the rule's place, or first 0 where no rule matches.
+#[no_mangle]
+pub extern "C" fn krubbadin_choose(
+    words: &[u64],
+    values: &[u64],
+    octets: &[u8],
+    packet: &[u64],
+) -> KrubbadinAnswer
+    ensures { λ r. ⌜ r ≡ choiceAnswer (chosenIn (table (now (words .entry)) (now (values .entry)) (now (octets .entry))) (packetAt (now (packet .entry)))) ⌝ }
+{
+    choice_answer(choosing::choose(words, values, octets, packets::packet_at(packet)))
 }
