@@ -1,16 +1,17 @@
--- Document 01's starred cases of reading, proved of the definitions: each row is a reading, an input and what the document says of it, and
--- the one statement `cases-hold` says that the definition gives just that in every row. Octets are written as the document prints them, in
--- hex. Assumes nothing.
+-- Document 01's starred cases, proved of the definitions: each row is a question and what the document says, and the one statement
+-- `cases-hold` says that the definitions give just that in every row; where a row speaks of every packet, it is of any packet whatever.
+-- Octets are written as the document prints them, in hex. Assumes nothing.
 use Prim.Native.Nat.{ℕ, _^_}
 use mathlib.Core.Path.{_≡_, refl}
+use mathlib.Core.Bool.{Bool, true, false}
 use mathlib.Core.List.{List, [], _∷_, _++_, map}
 use Rattle.ground.specs.Answers.{Answer, accepts, refuses}
 use Rattle.choices.specs.declared.Reading.{Reading}
 use Rattle.choices.specs.declared.Reading.the-variants.{Plain, Ipv4, Ipv6}
 use Rattle.choices.specs.Choices.{kindOf, refusedIn}
-use Rattle.choices.specs.Operators.{Op, op}
-use Rattle.octets.specs.Lengths.{lengthAt}
-use Rattle.octets.specs.Spell.{spell}
+use Rattle.choices.specs.Operators.{Op, op, octetOf, numberOf, opsIn, listOctets}
+use Rattle.octets.specs.Lengths.{lengthAt, lengthOctets}
+use Rattle.octets.specs.Spell.{spell, spelled}
 use Rattle.rules.specs.declared.NetworkPrefix.the-variants.{Ipv4 as V4, Ipv6Offset}
 use Rattle.rules.specs.declared.Span.{Span}
 use Rattle.rules.specs.declared.FlowSpecComponent.{FlowSpecComponent}
@@ -19,23 +20,50 @@ use Rattle.rules.specs.Components.{listOf}
 use Rattle.prefixes.specs.Prefixes.{octetsAt, boundedAt, plainAt, ipv4At, ipv6At}
 use Rattle.lists.specs.Lists.{stepAt, listFrom, listAt, opsFrom, opsAt, recordedOps}
 use Rattle.walk.specs.Walks.{typedAt, componentAt, walkFrom, walkAt}
-use Rattle.reading.specs.Readings.{ReadRule, familyOf, statedAt, readAt}
+use Rattle.packets.specs.declared.Packet.{Packet}
+use Rattle.packets.specs.Packets.{packetOk}
+use Rattle.stored.specs.Stored.{allWords, tailWords, ruleWords, componentOf, isComponent, partOf, partAt, componentsFrom, partsFrom, zerosFrom, isRule, ruleAt, storedAt}
+use Rattle.listwriting.specs.Lists.{ends, takes}
+use Rattle.measuring.specs.Bodies.{pieceOctets, bodyOctets}
+use Rattle.measuring.specs.Grounds.{allOperators, pieceTaken, allTaken, inOrder, takenAfter}
+use Rattle.satisfying.specs.Lists.{compared, masked, joined, later, groups, all, any, listMatches, dataMatch}
+use Rattle.matching.specs.Cases.{packet, from-to, flagged, to}
+use Rattle.matching.specs.Rules.{componentMatches, ruleMatches}
+use Rattle.reading.specs.Readings.{ReadRule, familyOf, statedAt, readAt, wordsOf, operatorsOf}
+use Rattle.writing.specs.Writings.{writtenFrom, writtenIn, writtenRule, answerFor}
+use Rattle.ranking.specs.Ranks.{lower, inTurn, rankBits, rankFront, rankPiece, piecesOf, rankOf}
+use Rattle.verdicts.specs.Verdicts.{wellFormed, matchVerdict}
+use Rattle.choosing.specs.Choosing.{table, Choice, place, none, allBelow, firstFailing, bestBelow, chosenIn}
+
+-- what is asked: to read an input; to read it and write the rule again; whether a packet, or any packet whatever, satisfies the rule that
+-- an input is; which of the rules that some inputs are decides on a packet
+pub data Question : Type 0 where
+  read : Reading → List ℕ → Question
+  rewrite : Reading → List ℕ → Question
+  match : Reading → List ℕ → Packet → Question
+  match-any : Reading → List ℕ → Question
+  choose : Reading → List (List ℕ) → Packet → Question
+
+-- and what is said of it
+pub data Said : Type 0 where
+  rule-is : Answer ReadRule → Said
+  octets-are : Answer (List ℕ) → Said
+  matching-is : Answer Bool → Said
+  choice-is : Answer Choice → Said
 
 pub record Case : Type 0 where
-  pub reading : Reading
-  pub input : List ℕ
-  pub says : Answer ReadRule
+  pub asks : Question
+  pub says : Said
+
+abbrev case : Question → Said → List Case
+case q x = record { asks = q; says = x } ∷ []
+
+abbrev in-one : Reading → List ℕ → Answer ReadRule → List Case
+in-one reading input a = case (read reading input) (rule-is a)
 
 -- an input under every reading, with the same answer
 abbrev in-all : List ℕ → (Reading → Answer ReadRule) → List Case
-in-all input says =
-    record { reading = Plain; input = input; says = says Plain }
-    ∷ record { reading = Ipv4; input = input; says = says Ipv4 }
-    ∷ record { reading = Ipv6; input = input; says = says Ipv6 }
-    ∷ []
-
-abbrev in-one : Reading → List ℕ → Answer ReadRule → List Case
-in-one reading input says = record { reading = reading; input = input; says = says } ∷ []
+in-all input a = in-one Plain input (a Plain) ++ in-one Ipv4 input (a Ipv4) ++ in-one Ipv6 input (a Ipv6)
 
 -- a rule of components and operators, of which so many octets were used
 abbrev rule : List FlowSpecComponent → List Op → ℕ → Reading → Answer ReadRule
@@ -50,6 +78,15 @@ span start count = record { start = start; count = count }
 abbrev protocol-6 : Reading → Answer ReadRule
 protocol-6 = rule (IpProtocol (span 0 1) ∷ []) (op 0x81 6 ∷ []) 4
 
+abbrev port-case : List ℕ
+port-case = 0x08 ∷ 0x05 ∷ 0x03 ∷ 0x50 ∷ 0x45 ∷ 0x5A ∷ 0x91 ∷ 0x01 ∷ 0xBB ∷ []
+
+abbrev two-prefixes : List (List ℕ)
+two-prefixes = (0x03 ∷ 0x01 ∷ 0x08 ∷ 0x0A ∷ []) ∷ (0x04 ∷ 0x01 ∷ 0x10 ∷ 0x0A ∷ 0x01 ∷ []) ∷ []
+
+abbrev to-port : ℕ → Packet
+to-port n = from-to 1024 n
+
 pub rows : List Case
 rows =
     -- empty; F0; EF: 1
@@ -58,9 +95,16 @@ rows =
     ++ in-all (0xEF ∷ []) (refused 1 [])
     -- 00: no components, used 1
     ++ in-all (0x00 ∷ []) (rule [] [] 1)
+    -- .. It matches every packet
+    ++ case (match-any Plain (0x00 ∷ [])) (matching-is (accepts true))
+    ++ case (match-any Ipv4 (0x00 ∷ [])) (matching-is (accepts true))
+    ++ case (match-any Ipv6 (0x00 ∷ [])) (matching-is (accepts true))
     -- F0 05 01 18 C0 00 02: 192.0.2.0/24, used 7
     ++ in-one Plain (0xF0 ∷ 0x05 ∷ 0x01 ∷ 0x18 ∷ 0xC0 ∷ 0x00 ∷ 0x02 ∷ []) (rule (DestinationPrefix (V4 24 0xC0000200) ∷ []) [] 7 Plain)
     ++ in-one Ipv4 (0xF0 ∷ 0x05 ∷ 0x01 ∷ 0x18 ∷ 0xC0 ∷ 0x00 ∷ 0x02 ∷ []) (rule (DestinationPrefix (V4 24 0xC0000200) ∷ []) [] 7 Ipv4)
+    -- .. rewritten 05 01 18 C0 00 02
+    ++ case (rewrite Plain (0xF0 ∷ 0x05 ∷ 0x01 ∷ 0x18 ∷ 0xC0 ∷ 0x00 ∷ 0x02 ∷ [])) (octets-are (accepts (0x05 ∷ 0x01 ∷ 0x18 ∷ 0xC0 ∷ 0x00 ∷ 0x02 ∷ [])))
+    ++ case (rewrite Ipv4 (0xF0 ∷ 0x05 ∷ 0x01 ∷ 0x18 ∷ 0xC0 ∷ 0x00 ∷ 0x02 ∷ [])) (octets-are (accepts (0x05 ∷ 0x01 ∷ 0x18 ∷ 0xC0 ∷ 0x00 ∷ 0x02 ∷ [])))
     -- 02 03 81 06 05: plain gives protocol 6; standard 1
     ++ in-one Plain (0x02 ∷ 0x03 ∷ 0x81 ∷ 0x06 ∷ 0x05 ∷ []) (rule (IpProtocol (span 0 1) ∷ []) (op 0x81 6 ∷ []) 3 Plain)
     ++ in-one Ipv4 (0x02 ∷ 0x03 ∷ 0x81 ∷ 0x06 ∷ 0x05 ∷ []) (refuses 1 [])
@@ -82,16 +126,52 @@ rows =
     ++ in-one Ipv6 (0x04 ∷ 0x01 ∷ 0x41 ∷ 0x3F ∷ 0xC0 ∷ []) (rule (DestinationPrefix (Ipv6Offset 65 63 1 (2 ^ 63)) ∷ []) [] 5 Ipv6)
     ++ in-one Ipv6 (0x03 ∷ 0x01 ∷ 0x40 ∷ 0x40 ∷ []) (refuses 4 [])
     ++ in-one Ipv6 (0x03 ∷ 0x01 ∷ 0x00 ∷ 0x00 ∷ []) (rule (DestinationPrefix (Ipv6Offset 0 0 0 0) ∷ []) [] 4 Ipv6)
-    -- 08 05 03 50 45 5A 91 01 BB: the destination ports, as they are read
-    ++ in-one Ipv4 (0x08 ∷ 0x05 ∷ 0x03 ∷ 0x50 ∷ 0x45 ∷ 0x5A ∷ 0x91 ∷ 0x01 ∷ 0xBB ∷ [])
+    -- 08 05 03 50 45 5A 91 01 BB: destination ports 80, 90 and 443 match, 79 and 91 don't
+    ++ in-one Ipv4 port-case
     (rule (DestinationPort (span 0 3) ∷ []) (op 0x03 80 ∷ op 0x45 90 ∷ op 0x91 443 ∷ []) 9 Ipv4)
+    ++ case (match Ipv4 port-case (to-port 79)) (matching-is (accepts false))
+    ++ case (match Ipv4 port-case (to-port 80)) (matching-is (accepts true))
+    ++ case (match Ipv4 port-case (to-port 90)) (matching-is (accepts true))
+    ++ case (match Ipv4 port-case (to-port 91)) (matching-is (accepts false))
+    ++ case (match Ipv4 port-case (to-port 443)) (matching-is (accepts true))
+    -- 03 09 81 12: flags 0x12 match, 0x02 don't; 03 09 80 12: both do
+    ++ case (match Ipv4 (0x03 ∷ 0x09 ∷ 0x81 ∷ 0x12 ∷ []) (flagged 0x12)) (matching-is (accepts true))
+    ++ case (match Ipv4 (0x03 ∷ 0x09 ∷ 0x81 ∷ 0x12 ∷ []) (flagged 0x02)) (matching-is (accepts false))
+    ++ case (match Ipv4 (0x03 ∷ 0x09 ∷ 0x80 ∷ 0x12 ∷ []) (flagged 0x12)) (matching-is (accepts true))
+    ++ case (match Ipv4 (0x03 ∷ 0x09 ∷ 0x80 ∷ 0x12 ∷ []) (flagged 0x02)) (matching-is (accepts true))
+    -- Places 0 03 01 08 0A, 1 04 01 10 0A 01: 10.1.2.3 gets place 1, 10.2.0.1 place 0, 11.0.0.1 none
+    ++ case (choose Ipv4 two-prefixes (to 4 0x0A010203)) (choice-is (accepts (place 1)))
+    ++ case (choose Ipv4 two-prefixes (to 4 0x0A020001)) (choice-is (accepts (place 0)))
+    ++ case (choose Ipv4 two-prefixes (to 4 0x0B000001)) (choice-is (accepts none))
 
-abbrev gives : Case → Answer ReadRule
-gives c = readAt (c .reading) (c .input)
+-- a rule that was read, lent as words and lists
+abbrev values : Answer ReadRule → List ℕ
+values a = map numberOf (operatorsOf a)
 
-abbrev said : Case → Answer ReadRule
+abbrev octets : Answer ReadRule → List ℕ
+octets a = map octetOf (operatorsOf a)
+
+abbrev written : Reading → Answer ReadRule → Answer (List ℕ)
+written reading a = writtenFrom reading (wordsOf a) (values a) (octets a) 4097
+
+-- rules of prefixes alone, stored one after the other: they have no operators
+unfoldable pub stored : Reading → List (List ℕ) → List ℕ
+stored reading [] = []
+stored reading (s ∷ ss) = wordsOf (readAt reading s) ++ stored reading ss
+
+abbrev gives : Packet → Question → Said
+gives anyone (read reading input) = rule-is (readAt reading input)
+gives anyone (rewrite reading input) = octets-are (written reading (readAt reading input))
+gives anyone (match reading input p) = let a = readAt reading input in matching-is (matchVerdict (wordsOf a) (values a) (octets a) p)
+gives anyone (match-any reading input) = let a = readAt reading input in matching-is (accepts (ruleMatches (values a) (octets a) anyone (storedAt (wordsOf a) 0)))
+gives anyone (choose reading inputs p) = choice-is (chosenIn (table (stored reading inputs) [] []) p)
+
+abbrev asked : Packet → Case → Said
+asked anyone c = gives anyone (c .asks)
+
+abbrev said : Case → Said
 said c = c .says
 
-pub cases-hold : map gives rows ≡ map said rows
-unfolding rows readAt statedAt walkAt walkFrom componentAt typedAt lengthAt octetsAt boundedAt plainAt ipv4At ipv6At listAt listFrom stepAt opsAt opsFrom recordedOps kindOf refusedIn listOf spell
-cases-hold = refl
+pub cases-hold : (anyone : Packet) → map (asked anyone) rows ≡ map said rows
+unfolding rows readAt statedAt walkAt walkFrom componentAt typedAt lengthAt octetsAt boundedAt plainAt ipv4At ipv6At listAt listFrom stepAt opsAt opsFrom recordedOps kindOf refusedIn listOf spell writtenFrom writtenIn writtenRule answerFor lengthOctets spelled opsIn listOctets pieceOctets bodyOctets allOperators pieceTaken allTaken inOrder takenAfter ends takes allWords tailWords ruleWords componentOf isComponent partOf partAt componentsFrom partsFrom zerosFrom isRule ruleAt wellFormed matchVerdict packetOk componentMatches ruleMatches compared masked joined later groups all any listMatches dataMatch packet from-to flagged to stored lower inTurn rankBits rankFront rankPiece piecesOf rankOf allBelow firstFailing bestBelow chosenIn
+cases-hold anyone = refl
