@@ -1,0 +1,59 @@
+-- `listing::put_prefix` meets its contract: the IPv4 form alone has a line. Assumes nothing.
+use mathlib.Core.Path.{sym, ap}
+use Rattle.listing.specs.Listings.{prefixLine}
+use Rattle.listing.proofs.Joins.{put-none, put-same, room-same}
+use borrow.Author.Needs.{needs}
+use Rattle.listing.proofs.put_prefix.Statement.{statement}
+use Rattle.listing.proofs.put_prefix.Tie as tie
+use Rattle.listing.proofs.put_prefix.Reads as reads
+use Rattle.listing.proofs.put_prefix.Lts as lts
+use Rattle.listing.proofs.put_ipv4.Reads as put-ipv4-reads
+
+enum-known-prefix : tie.Need-enum-known-prefix
+enum-known-prefix c = search needs
+
+put-ipv4-requires : tie.Need-put-ipv4-requires
+put-ipv4-requires c κs =
+    let k = c .before .before in
+    room-same (ap prefixLine (k .prefix .given .1)) (k .before .before .before .pre)
+
+enum-told : tie.Need-enum-told
+enum-told c = search needs
+
+enum-told-2 : tie.Need-enum-told-2
+enum-told-2 c = search needs
+
+enum-told-3 : tie.Need-enum-told-3
+enum-told-3 c = search needs
+
+same-length : tie.Need-same-length
+same-length c = search needs
+
+returns : tie.Need-returns
+returns c =
+    let h = c .before .before in
+    put-same (sym (ap prefixLine (h .before .before .before .prefix .given .1))) (h .put-ipv4 .ensures)
+
+returns-2 : tie.Need-returns-2
+returns-2 c = put-same (sym (ap prefixLine (c .enum-told .given .1))) (put-none _ _)
+
+returns-3 : tie.Need-returns-3
+returns-3 c = put-same (sym (ap prefixLine (c .enum-told2 .given .1))) (put-none _ _)
+
+returns-4 : tie.Need-returns-4
+returns-4 c = put-same (sym (ap prefixLine (c .enum-told3 .given .1))) (put-none _ _)
+
+pub put-prefix-spec : {M : Type 1} → statement M
+put-prefix-spec =
+    tie.close
+    (tie.spec
+    enum-known-prefix
+    put-ipv4-requires
+    enum-told
+    enum-told-2
+    enum-told-3
+    same-length
+    returns
+    returns-2
+    returns-3
+    returns-4)

@@ -1,0 +1,85 @@
+-- `listing::put_refusal` meets its contract: its lines in turn. Assumes nothing.
+use Prim.Native.Nat.{ℕ}
+use mathlib.Core.Path.{ap}
+use native.Mathlib.Omega.{arith}
+use lib.ListN.{length, length-append}
+use Rattle.listing.specs.Texts.{ascii}
+use Rattle.listing.specs.Listings.{numberLine, refusalLines}
+use Rattle.listing.proofs.Joins.{put-same, joins}
+use borrow.Author.Needs.{needs}
+use Rattle.listing.proofs.put_refusal.Statement.{statement}
+use Rattle.listing.proofs.put_refusal.Tie as tie
+use Rattle.listing.proofs.put_refusal.Reads as reads
+use Rattle.listing.proofs.put_refusal.Lts as lts
+use Rattle.listing.proofs.put.Reads as put-reads
+use Rattle.listing.proofs.put_carried.Reads as put-carried-reads
+use Rattle.listing.proofs.put_number_line.Reads as put-number-line-reads
+use Rattle.listing.proofs.put_text.Reads as put-text-reads
+use Rattle.refusals.proofs.number.Reads as number-reads
+
+slice-aggregate-put-text : tie.Need-slice-aggregate-put-text
+slice-aggregate-put-text c = search needs
+
+put-text-requires : tie.Need-put-text-requires
+unfolding refusalLines
+put-text-requires c κs = search needs
+
+slice-aggregate-put-number-line : tie.Need-slice-aggregate-put-number-line
+slice-aggregate-put-number-line c = search needs
+
+number-requires : tie.Need-number-requires
+number-requires c κs = search needs
+
+cast-put-number-line : tie.Need-cast-put-number-line
+cast-put-number-line c = search needs
+
+put-number-line-requires : tie.Need-put-number-line-requires
+unfolding refusalLines
+put-number-line-requires c κs = record { fits = omega (arith, simp length-append at (c .before .before .before .before .before .before .before .before .before .pre .fits), ap (λ (x : ℕ). length (numberLine (ascii "status=") x)) (c .before .number .ensures)) }
+
+slice-aggregate-put-text-2 : tie.Need-slice-aggregate-put-text-2
+slice-aggregate-put-text-2 c = search needs
+
+put-text-requires-2 : tie.Need-put-text-requires-2
+unfolding refusalLines
+put-text-requires-2 c κs = record { fits = omega (arith, simp length-append at (c .before .before .before .before .before .before .before .before .before .before .before .before .before .before .pre .fits), ap (λ (x : ℕ). length (numberLine (ascii "status=") x)) (c .before .before .before .before .before .before .number .ensures)) }
+
+put-carried-requires : tie.Need-put-carried-requires
+unfolding refusalLines
+put-carried-requires c κs = record { fits = omega (arith, simp length-append at (c .before .before .before .before .before .before .before .before .before .before .before .before .before .before .before .before .before .before .pre .fits), ap (λ (x : ℕ). length (numberLine (ascii "status=") x)) (c .before .before .before .before .before .before .before .before .before .before .number .ensures)) }
+
+put-requires : tie.Need-put-requires
+unfolding refusalLines
+put-requires c κs = record { fits = omega (arith, simp length-append at (c .before .before .before .before .before .before .before .before .before .before .before .before .before .before .before .before .before .before .before .before .before .before .pre .fits), ap (λ (x : ℕ). length (numberLine (ascii "status=") x)) (c .before .before .before .before .before .before .before .before .before .before .before .before .before .before .number .ensures)) }
+
+same-length : tie.Need-same-length
+same-length c = search needs
+
+returns : tie.Need-returns
+unfolding refusalLines
+returns c =
+    let h5 = c .before .before in
+    let h4 = h5 .before .before .before .before in
+    let h3 = h4 .before .before .before .before in
+    let h2 = h3 .before .before .before .before .before in
+    let n = h2 .before .before in
+    let h1 = n .before .before .before .before in
+    joins _ _ (joins _ _ (h1 .put-text .ensures) (put-same (ap (numberLine (ascii "status=")) (n .number .ensures)) (h2 .put-number-line .ensures)))
+    (joins _ _ (joins _ _ (h3 .put-text2 .ensures) (h4 .put-carried .ensures)) (h5 .put .ensures))
+
+pub put-refusal-spec : {M : Type 1} → statement M
+put-refusal-spec =
+    tie.close
+    (tie.spec
+    slice-aggregate-put-text
+    put-text-requires
+    slice-aggregate-put-number-line
+    number-requires
+    cast-put-number-line
+    put-number-line-requires
+    slice-aggregate-put-text-2
+    put-text-requires-2
+    put-carried-requires
+    put-requires
+    same-length
+    returns)

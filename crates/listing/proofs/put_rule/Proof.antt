@@ -1,0 +1,79 @@
+-- `listing::put_rule` meets its contract: its lines in turn. Assumes nothing.
+use Prim.Native.Nat.{ℕ}
+use mathlib.Core.Path.{sym, ap}
+use native.Mathlib.Omega.{arith}
+use lib.ListN.{length, length-append}
+use Rattle.listing.specs.Listings.{componentsLine, ruleLines}
+use Rattle.listing.proofs.Joins.{put-same, joins}
+use borrow.Author.Needs.{needs}
+use Rattle.listing.proofs.put_rule.Statement.{statement}
+use Rattle.listing.proofs.put_rule.Tie as tie
+use Rattle.listing.proofs.put_rule.Reads as reads
+use Rattle.listing.proofs.put_rule.Lts as lts
+use Rattle.listing.proofs.put_components.Reads as put-components-reads
+use Rattle.listing.proofs.put_number_line.Reads as put-number-line-reads
+use Rattle.listing.proofs.put_text.Reads as put-text-reads
+
+slice-aggregate-put-text : tie.Need-slice-aggregate-put-text
+slice-aggregate-put-text c = search needs
+
+put-text-requires : tie.Need-put-text-requires
+unfolding ruleLines
+put-text-requires c κs = search needs
+
+slice-aggregate-put-number-line : tie.Need-slice-aggregate-put-number-line
+slice-aggregate-put-number-line c = search needs
+
+put-number-line-requires : tie.Need-put-number-line-requires
+unfolding ruleLines
+put-number-line-requires c κs = record { fits = omega (arith, simp length-append at (c .before .before .before .before .before .before .before .before .before .before .pre .1 .fits)) }
+
+slice-aggregate-put-number-line-2 : tie.Need-slice-aggregate-put-number-line-2
+slice-aggregate-put-number-line-2 c = search needs
+
+put-number-line-requires-2 : tie.Need-put-number-line-requires-2
+unfolding ruleLines
+put-number-line-requires-2 c κs = record { fits = omega (arith, simp length-append at (c .before .before .before .before .before .before .before .before .before .before .before .before .before .before .before .pre .1 .fits)) }
+
+slice-aggregate-put-number-line-3 : tie.Need-slice-aggregate-put-number-line-3
+slice-aggregate-put-number-line-3 c = search needs
+
+put-number-line-requires-3 : tie.Need-put-number-line-requires-3
+unfolding ruleLines
+put-number-line-requires-3 c κs = record { fits = omega (arith, simp length-append at (c .before .before .before .before .before .before .before .before .before .before .before .before .before .before .before .before .before .before .before .before .pre .1 .fits), ap (λ (n : ℕ). length (componentsLine n)) (c .before .before .before .before .before .before .before .before .before .before .before .before .before .before .before .before .before .before .before .before .pre .0 .counted)) }
+
+put-components-requires : tie.Need-put-components-requires
+unfolding ruleLines
+put-components-requires c κs =
+    let s = c .before .before .before .before .before .before .before .before .before .before .before .before .before .before .before .before .before .before .before .before .before .before .before .before in
+    (s .pre .0, record { fits = omega (arith, simp length-append at (s .pre .1 .fits), ap (λ (n : ℕ). length (componentsLine n)) (s .pre .0 .counted)) })
+
+same-length : tie.Need-same-length
+same-length c = search needs
+
+returns : tie.Need-returns
+unfolding ruleLines
+returns c =
+    let h5 = c .before .before in
+    let h4 = h5 .before .before .before .before in
+    let h3 = h4 .before .before .before .before .before in
+    let h2 = h3 .before .before .before .before .before in
+    let h1 = h2 .before .before .before .before .before in
+    let s = h1 .before .before .before .before .before .before in
+    joins _ _ (joins _ _ (joins _ _ (joins _ _ (h1 .put-text .ensures) (h2 .put-number-line .ensures)) (h3 .put-number-line2 .ensures)) (put-same (ap componentsLine (sym (s .pre .0 .counted))) (h4 .put-number-line3 .ensures))) (h5 .put-components .ensures)
+
+pub put-rule-spec : {M : Type 1} → statement M
+put-rule-spec =
+    tie.close
+    (tie.spec
+    slice-aggregate-put-text
+    put-text-requires
+    slice-aggregate-put-number-line
+    put-number-line-requires
+    slice-aggregate-put-number-line-2
+    put-number-line-requires-2
+    slice-aggregate-put-number-line-3
+    put-number-line-requires-3
+    put-components-requires
+    same-length
+    returns)

@@ -1,0 +1,359 @@
+// The listing that flowlist prints, as octets. The functions named `put` put a text from a place of the output on and answer the place after it.
+// What lies past the output's end is not stored, so over no output at all they measure: a listing is measured by the code that writes it.
+//
+// The functions with a `requires` are no entry points: they ask that places stay numbers of 64 bits, and that a list's operators are there.
+ghost use mathlib.Core.Path.{_≡_};
+ghost use mathlib.Core.List.{[], _∷_, map};
+ghost use Prim.Native.Nat.{_+_, _≤_, _<_};
+ghost use lib.ListN.{length, take};
+ghost use lib.Seq.{sets};
+ghost use Rattle.ground.specs.Picks.{pick};
+ghost use Rattle.refusals.specs.Refusals.{numberOf, carriedOf};
+ghost use Rattle.choices.specs.Operators.{op, opsIn, octetOf};
+ghost use Rattle.choices.specs.Operators.{numberOf as valueOf};
+ghost use Rattle.rules.specs.Components.{componentsOf};
+ghost use Rattle.reading.specs.Readings.{toldInto, takenOf, wordsOf, operatorsOf};
+ghost use Rattle.listing.specs.Texts.{digit as Texts·digit, hex, decimal, commas, dotted};
+ghost use Rattle.listing.specs.Listings.{numberLine, opLine, opLines, prefixLine, pieceLines, componentLines, ruleLines, refusalLines, listedAt, listingOf, listedInto, countedIn, octetsIn, toldListed};
+ghost use Rattle.listing.specs.Puts.{Room, Put, Within, Whole, linesOf};
+use choices::Reading;
+use pieces::Piece;
+use reading::ReadInto;
+use refusals::Fault;
+use refusals::FlowSpecError;
+use rules::FlowSpecNlri;
+use rules::NetworkPrefix;
+
+// How many octets the listing has.
+pub enum Listed {
+    Octets(usize),
+    Refused(Fault),
+}
+
+// One octet.
+fn put(octet: u8, out: &mut [u8], at: usize) -> usize
+    requires { ⌜ Room at (octet ∷ []) ⌝ }
+    ensures { λ r. ⌜ Put (now (out .entry)) at (octet ∷ []) (now (out .exit)) r ⌝ }
+{
+    if at < out.len() {
+        out[at] = octet;
+        return at + 1;
+    }
+    at + 1
+}
+
+// An octet, if it is wanted.
+fn put_if(wanted: bool, octet: u8, out: &mut [u8], at: usize) -> usize
+    requires { ⌜ Room at (pick wanted (octet ∷ []) []) ⌝ }
+    ensures { λ r. ⌜ Put (now (out .entry)) at (pick wanted (octet ∷ []) []) (now (out .exit)) r ⌝ }
+{
+    if wanted {
+        return put(octet, out, at);
+    }
+    at
+}
+
+fn put_text(text: &[u8], out: &mut [u8], at: usize) -> usize
+    requires { ⌜ Room at (now text) ⌝ }
+    ensures { λ r. ⌜ Put (now (out .entry)) at (now (text .entry)) (now (out .exit)) r ⌝ }
+{
+    let mut end = at;
+    let mut i = 0;
+    while i < text.len() {
+        let octet = text[i];
+        end = put(octet, out, end);
+        i += 1;
+    }
+    end
+}
+
+// The digit of a number below 16.
+fn digit(d: u64) -> u8
+    requires { ⌜ d < 16 ⌝ }
+    ensures { λ r. ⌜ r ≡ Texts·digit d ⌝ }
+{
+    if d < 10 { 48 + d as u8 } else { 55 + d as u8 }
+}
+
+// An octet in two hex digits.
+fn put_hex(octet: u8, out: &mut [u8], at: usize) -> usize
+    requires { ⌜ Room at (hex octet) ⌝ }
+    ensures { λ r. ⌜ Put (now (out .entry)) at (hex octet) (now (out .exit)) r ⌝ }
+{
+    let v = octet as u64;
+    let end = put(digit(v / 16), out, at);
+    put(digit(v % 16), out, end)
+}
+
+// A number in decimal, its digits from the highest power of ten down.
+fn put_decimal(number: u64, out: &mut [u8], at: usize) -> usize
+    requires { ⌜ Room at (decimal number) ⌝ }
+    ensures { λ r. ⌜ Put (now (out .entry)) at (decimal number) (now (out .exit)) r ⌝ }
+{
+    let mut end = at;
+    let mut power: u64 = 10000000000000000000;
+    while 1 < power {
+        let octet = digit(number / power % 10);
+        end = put_if(power <= number, octet, out, end);
+        power /= 10;
+    }
+    put(digit(number % 10), out, end)
+}
+
+// A line of a key and a number.
+fn put_number_line(key: &[u8], number: u64, out: &mut [u8], at: usize) -> usize
+    requires { ⌜ Room at (numberLine (now key) number) ⌝ }
+    ensures { λ r. ⌜ Put (now (out .entry)) at (numberLine (now (key .entry)) number) (now (out .exit)) r ⌝ }
+{
+    let after = put_text(key, out, at);
+    let end = put_decimal(number, out, after);
+    put(b'\n', out, end)
+}
+
+// The line of an operator.
+fn put_op(octet: u8, value: u64, out: &mut [u8], at: usize) -> usize
+    requires { ⌜ Room at (opLine (op octet value)) ⌝ }
+    ensures { λ r. ⌜ Put (now (out .entry)) at (opLine (op octet value)) (now (out .exit)) r ⌝ }
+{
+    let key = put_text(b"op=", out, at);
+    let pair = put_hex(octet, out, key);
+    let colon = put(b':', out, pair);
+    let end = put_decimal(value, out, colon);
+    put(b'\n', out, end)
+}
+
+// The lines of a list's operators.
+fn put_ops(
+    values: &[u64],
+    octets: &[u8],
+    start: usize,
+    count: usize,
+    out: &mut [u8],
+    at: usize,
+) -> usize
+    requires values { ⌜ start + count ≤ length (now values) ⌝ }
+    requires octets { ⌜ start + count ≤ length (now octets) ⌝ }
+    requires room { ⌜ Room at (opLines (opsIn (now values) (now octets) start count)) ⌝ }
+    ensures { λ r. ⌜ Put (now (out .entry)) at (opLines (opsIn (now (values .entry)) (now (octets .entry)) start count)) (now (out .exit)) r ⌝ }
+{
+    let mut end = at;
+    let mut i = 0;
+    while i < count {
+        let place = start + i;
+        let octet = octets[place];
+        let value = values[place];
+        end = put_op(octet, value, out, end);
+        i += 1;
+    }
+    end
+}
+
+// An IPv4 address.
+fn put_dotted(address: u32, out: &mut [u8], at: usize) -> usize
+    requires { ⌜ Room at (dotted address) ⌝ }
+    ensures { λ r. ⌜ Put (now (out .entry)) at (dotted address) (now (out .exit)) r ⌝ }
+{
+    let a = address as u64;
+    let first = put_decimal(a / 16777216, out, at);
+    let second = put(b'.', out, first);
+    let second = put_decimal(a / 65536 % 256, out, second);
+    let third = put(b'.', out, second);
+    let third = put_decimal(a / 256 % 256, out, third);
+    let fourth = put(b'.', out, third);
+    put_decimal(a % 256, out, fourth)
+}
+
+// The line of a prefix: the IPv4 reading gives no other form than the first.
+fn put_prefix(prefix: NetworkPrefix, out: &mut [u8], at: usize) -> usize
+    requires { ⌜ Room at (prefixLine prefix) ⌝ }
+    ensures { λ r. ⌜ Put (now (out .entry)) at (prefixLine prefix) (now (out .exit)) r ⌝ }
+{
+    match prefix {
+        NetworkPrefix::Ipv4 { length, address } => put_ipv4(length, address, out, at),
+        NetworkPrefix::Ipv6 {
+            length: _,
+            high: _,
+            low: _,
+        } => at,
+        NetworkPrefix::Ipv4Offset {
+            length: _,
+            offset: _,
+            address: _,
+        } => at,
+        NetworkPrefix::Ipv6Offset {
+            length: _,
+            offset: _,
+            high: _,
+            low: _,
+        } => at,
+    }
+}
+
+// The line of an IPv4 prefix.
+fn put_ipv4(length: u8, address: u32, out: &mut [u8], at: usize) -> usize
+    requires { ⌜ Room at (prefixLine (NetworkPrefix.Ipv4 length address)) ⌝ }
+    ensures { λ r. ⌜ Put (now (out .entry)) at (prefixLine (NetworkPrefix.Ipv4 length address)) (now (out .exit)) r ⌝ }
+{
+    let key = put_text(b"prefix=", out, at);
+    let slash = put_dotted(address, out, key);
+    let number = put(b'/', out, slash);
+    let end = put_decimal(length as u64, out, number);
+    put(b'\n', out, end)
+}
+
+// The lines of a component.
+fn put_piece(piece: Piece, values: &[u64], octets: &[u8], out: &mut [u8], at: usize) -> usize
+    requires within { ⌜ Within (length (now values)) (length (now octets)) piece ⌝ }
+    requires room { ⌜ Room at (pieceLines (now values) (now octets) piece) ⌝ }
+    ensures { λ r. ⌜ Put (now (out .entry)) at (pieceLines (now (values .entry)) (now (octets .entry)) piece) (now (out .exit)) r ⌝ }
+{
+    match piece {
+        Piece::Prefix { kind, prefix } => {
+            let next = put_number_line(b"type=", kind as u64, out, at);
+            put_prefix(prefix, out, next)
+        }
+        Piece::Operators { kind, start, count } => {
+            let next = put_number_line(b"type=", kind as u64, out, at);
+            let first = put_number_line(b"ops=", count as u64, out, next);
+            put_ops(values, octets, start, count, out, first)
+        }
+        Piece::NoRecord => at,
+    }
+}
+
+// The lines of a rule's components.
+fn put_components(
+    rule: FlowSpecNlri,
+    values: &[u64],
+    octets: &[u8],
+    out: &mut [u8],
+    at: usize,
+) -> usize
+    requires whole { ⌜ Whole rule (length (now values)) (length (now octets)) ⌝ }
+    requires room { ⌜ Room at (componentLines (now values) (now octets) (componentsOf rule)) ⌝ }
+    ensures { λ r. ⌜ Put (now (out .entry)) at (componentLines (now (values .entry)) (now (octets .entry)) (componentsOf rule)) (now (out .exit)) r ⌝ }
+{
+    let slots = rule.slots;
+    let count = rule.count;
+    let mut end = at;
+    let mut i = 0;
+    while i < count {
+        let slot = slots[i];
+        let component = slot.component;
+        end = put_piece(pieces::piece_of(component), values, octets, out, end);
+        i += 1;
+    }
+    end
+}
+
+// The listing of a rule.
+fn put_rule(used: usize, rule: FlowSpecNlri, values: &[u64], octets: &[u8], out: &mut [u8]) -> usize
+    requires whole { ⌜ Whole rule (length (now values)) (length (now octets)) ⌝ }
+    requires room { ⌜ Room 0 (ruleLines used (componentsOf rule) (now values) (now octets)) ⌝ }
+    ensures { λ r. ⌜ Put (now (out .entry)) 0 (ruleLines used (componentsOf rule) (now (values .entry)) (now (octets .entry))) (now (out .exit)) r ⌝ }
+{
+    let status = put_text(b"reading=ipv4\n", out, 0);
+    let length = put_number_line(b"status=", 0, out, status);
+    let count = put_number_line(b"used=", used as u64, out, length);
+    let first = put_number_line(b"components=", rule.count as u64, out, count);
+    put_components(rule, values, octets, out, first)
+}
+
+// The numbers that a refusal carries, joined by commas.
+fn put_carried(error: FlowSpecError, out: &mut [u8], at: usize) -> usize
+    requires { ⌜ Room at (commas (carriedOf error)) ⌝ }
+    ensures { λ r. ⌜ Put (now (out .entry)) at (commas (carriedOf error)) (now (out .exit)) r ⌝ }
+{
+    let count = refusals::carried_count(error);
+    if count == 0 {
+        return at;
+    }
+    let end = put_decimal(refusals::first_carried(error), out, at);
+    if count == 1 {
+        return end;
+    }
+    let second = put(b',', out, end);
+    put_decimal(refusals::second_carried(error), out, second)
+}
+
+// The listing of a refusal.
+fn put_refusal(fault: Fault, out: &mut [u8]) -> usize
+    requires { ⌜ Room 0 (refusalLines (numberOf (fault .error)) (carriedOf (fault .error))) ⌝ }
+    ensures { λ r. ⌜ Put (now (out .entry)) 0 (refusalLines (numberOf (fault .error)) (carriedOf (fault .error))) (now (out .exit)) r ⌝ }
+{
+    let error = fault.error;
+    let status = put_text(b"reading=ipv4\n", out, 0);
+    let detail = put_number_line(b"status=", refusals::number(error) as u64, out, status);
+    let first = put_text(b"detail=", out, detail);
+    let end = put_carried(error, out, first);
+    put(b'\n', out, end)
+}
+
+// The listing of what was read. The rule stands beside the answer, and is not looked at beside a refusal.
+fn put_answer(
+    read: ReadInto,
+    rule: FlowSpecNlri,
+    values: &[u64],
+    octets: &[u8],
+    out: &mut [u8],
+) -> usize
+    requires whole { ⌜ Whole rule (length (now values)) (length (now octets)) ⌝ }
+    requires room { ⌜ Room 0 (linesOf (toldInto read) (componentsOf rule) (now values) (now octets)) ⌝ }
+    ensures { λ r. ⌜ Put (now (out .entry)) 0 (linesOf (toldInto read) (componentsOf rule) (now (values .entry)) (now (octets .entry))) (now (out .exit)) r ⌝ }
+{
+    match read {
+        ReadInto::Read { used, operators: _ } => put_rule(used, rule, values, octets, out),
+        ReadInto::Refused(fault) => put_refusal(fault, out),
+    }
+}
+
+// The reading of flowlist's input, of which it reads 4,098 octets at most. A longer one counts as that long.
+fn read_listed(input: &[u8], words: &mut [u64], values: &mut [u64], octets: &mut [u8]) -> ReadInto
+    requires { ⌜ (64 ≤ length (now words)) × ((2047 ≤ length (now values)) × (2047 ≤ length (now octets))) ⌝ }
+    ensures answer { λ r. ⌜ toldInto r ≡ takenOf (listedAt (now (input .entry))) ⌝ }
+    ensures words { λ r. ⌜ now (words .exit) ≡ sets (now (words .entry)) 0 (wordsOf (listedAt (now (input .entry)))) ⌝ }
+    ensures values { λ r. ⌜ now (values .exit) ≡ sets (now (values .entry)) 0 (map valueOf (operatorsOf (listedAt (now (input .entry))))) ⌝ }
+    ensures octets { λ r. ⌜ now (octets .exit) ≡ sets (now (octets .entry)) 0 (map octetOf (operatorsOf (listedAt (now (input .entry))))) ⌝ }
+{
+    if 4097 < input.len() {
+        return ReadInto::Refused(Fault {
+            error: FlowSpecError::InputTooLong(4098),
+        });
+    }
+    reading::read_into(Reading::Ipv4, input, words, values, octets)
+}
+
+// The listing of an input, from the output's start on, or NoRoom and nothing. The longest rule has 2,047 operators.
+pub fn list(input: &[u8], out: &mut [u8]) -> Listed
+    ensures answer { λ r. ⌜ toldListed r ≡ countedIn (listedInto (now (input .entry)) (length (now (out .entry)))) ⌝ }
+    ensures out { λ r. ⌜ now (out .exit) ≡ sets (now (out .entry)) 0 (octetsIn (listedInto (now (input .entry)) (length (now (out .entry))))) ⌝ }
+    ensures most { λ r. ⌜ length (listingOf (now (input .entry))) ≤ 65536 ⌝ }
+{
+    let mut words = [0u64; 64];
+    let mut values = [0u64; 2047];
+    let mut octets = [0u8; 2047];
+    let read = read_listed(input, &mut words, &mut values, &mut octets);
+    let stored = stored::rule_at(&words, 0);
+    let rule = stored.rule;
+    let mut nothing = [0u8; 0];
+    let needed = put_answer(read, rule, &values, &octets, &mut nothing);
+    if out.len() < needed {
+        return Listed::Refused(Fault {
+            error: FlowSpecError::NoRoom(needed),
+        });
+    }
+    put_answer(read, rule, &values, &octets, out);
+    Listed::Octets(needed)
+}
+
+// The same with room for any listing, so that it has an answer always.
+pub fn list_whole(input: &[u8], out: &mut [u8; 65536]) -> usize
+    ensures size { λ r. ⌜ r ≡ length (listingOf (now (input .entry))) ⌝ }
+    ensures out { λ r. ⌜ now (out .exit) ≡ sets (now (out .entry)) 0 (listingOf (now (input .entry))) ⌝ }
+    ensures within { λ r. ⌜ (r ≤ length (now (out .exit))) × (r ≡ length (take r (now (out .exit)))) ⌝ }
+{
+    match list(input, out) {
+        Listed::Octets(size) => size,
+        Listed::Refused(_) => 0,
+    }
+}
