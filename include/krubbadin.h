@@ -1,0 +1,209 @@
+/*
+ * BGP FlowSpec rules (RFC 8955, RFC 8956), read, written, matched, ranked and chosen by proved code: the surface of libkrubbadin.a, which
+ * `rt staticlib krubbadin` writes. It needs nothing but memset and memcpy of the C library, takes no heap, keeps no state, and may be
+ * called from many threads.
+ *
+ * A slice is a pointer and a length, the length in elements. The pointer may be NULL where the length is 0; else it points to so many
+ * elements, aligned as their type asks. A slice that is written overlaps no other slice of the call. Nothing else is asked: any numbers
+ * and any words are answered, and what is no rule or no packet is refused.
+ *
+ * Proved of each function, for all arguments: it returns; it reads and writes within the slices that it was lent; its answer and every
+ * slice that it was lent to write are exactly what its definition says, and a refusal changes nothing.
+ *
+ * Compiles as C11 and as C++11.
+ */
+#ifndef KRUBBADIN_H
+#define KRUBBADIN_H
+
+#include <stddef.h>
+#include <stdint.h>
+
+#ifdef __cplusplus
+extern "C" {
+#endif
+
+/*
+ * What a call answers. Status 0: accepted, and `first` and `second` are what the call says. Any other status is the number of a
+ * refusal, and `first` and `second` are what it carries, 0 where it carries less.
+ */
+struct krubbadin_answer {
+    uint64_t status;
+    uint64_t first;
+    uint64_t second;
+};
+
+/* The status numbers, with what each carries. */
+enum krubbadin_status {
+    KRUBBADIN_ACCEPTED = 0,
+    KRUBBADIN_INSUFFICIENT_DATA = 1,       /* octets are missing before the end that bounds them; nothing */
+    KRUBBADIN_INVALID_COMPONENT_ORDER = 2, /* a type is not above the one before it; first: that one (0 at first), second: the type found */
+    KRUBBADIN_INVALID_COMPONENT_TYPE = 3,  /* no such component (in this family); first: the type */
+    KRUBBADIN_INVALID_PREFIX = 4,          /* a prefix's length or offset is out of range; nothing */
+    KRUBBADIN_INVALID_OPERATOR = 5,        /* plain only: a reserved bit is set; first: the operator octet */
+    KRUBBADIN_INVALID_VALUE_LENGTH = 6,    /* met by no call: every width code has a width */
+    KRUBBADIN_VALUE_TOO_LARGE = 7,         /* a body of more than 4,095 octets; first: its octets, the length's own not counted */
+    KRUBBADIN_INPUT_TOO_LONG = 8,          /* plain only: more than 4,097 octets; first: how many */
+    KRUBBADIN_NO_ROOM = 9,                 /* too little was lent; first: the operator places that the whole rule needs (1 where fewer than 64
+                                              words were lent: one rule place), or the octets of the whole NLRI */
+    KRUBBADIN_BAD_RECORD = 10,             /* what was lent is no rule, or none that the writing takes; nothing */
+    KRUBBADIN_BAD_FAMILY = 11,             /* the family is not 4 or 6; first: the family */
+    KRUBBADIN_TOO_MANY_RULES = 12,         /* more than 64 rules; first: how many */
+    KRUBBADIN_BAD_PACKET = 13,             /* a field of the packet is out of range, or there are not 20 words; nothing */
+    KRUBBADIN_MIXED_FAMILY = 14            /* a rule of another family; first: the first such place */
+};
+
+/*
+ * A rule stands in 64 words, its operators in two lists beside each other: the values, and the operator octets. Unequal lists count as
+ * the shorter.
+ *
+ *    0 to 51   thirteen components of four words each; unused ones are 0
+ *   52         how many components there are, at most 13
+ *   53         the family: 0 as the plain reading leaves it, 4 or 6 as a standard one does; at most 255
+ *   54         the place in the two lists where the rule's operators begin; a reading leaves 0
+ *   55 to 63   0
+ *
+ * A prefix, types 1 (destination) and 2 (source):
+ *   0   type + 16 x form; forms: 0 IPv4, 1 IPv6, 2 IPv4 with an offset, 3 IPv6 with an offset
+ *   1   length + 256 x offset; the offset is 0 where the form has none
+ *   2   the IPv4 address as a number, or the first 64 bits of the IPv6 address
+ *   3   0, or the last 64 bits of the IPv6 address
+ * The standard readings give IPv4 prefixes form 0 and IPv6 prefixes form 3; the plain reading gives forms 0 and 1.
+ *
+ * A list, types 3 (protocol), 4 (port), 5 (destination port), 6 (source port), 7 (ICMP type), 8 (ICMP code), 9 (TCP flags), 10 (packet
+ * length), 11 (DSCP), 12 (fragment) and 13 (flow label); 9 and 12 have bitmask operators, the others numeric ones:
+ *   0   type
+ *   1   the place of its first operator, counted from the rule's first (word 54)
+ *   2   how many operators it has
+ *   3   0
+ *
+ * An operator octet: 0x80 the last of its list; 0x40 joined by AND, by the RFC to the previous operator; 0x30 the width of its value,
+ * codes 0 to 3 for 1, 2, 4 and 8 octets; numeric: 0x04 less, 0x02 greater, 0x01 equal; bitmask: 0x02 NOT, 0x01 match. The rest is
+ * reserved.
+ */
+#define KRUBBADIN_RULE_WORDS 64
+#define KRUBBADIN_WORD_COUNT 52
+#define KRUBBADIN_WORD_FAMILY 53
+#define KRUBBADIN_WORD_FIRST 54
+
+/* The most operators that an NLRI can have: with lists of so many places no reading is short of room. */
+#define KRUBBADIN_MOST_OPERATORS 2047
+
+/* The longest NLRI: with so many octets no writing is short of room. */
+#define KRUBBADIN_MOST_OCTETS 4097
+
+/*
+ * A packet stands in 20 words. Where a field is absent its flag is 0, its other words are not looked at, and no component matches it.
+ *
+ *    0           family, 4 or 6
+ *    1, 2        destination, its high and its low 64 bits; in family 4 a number of 32 bits
+ *    3, 4        source, in the same way
+ *    5           protocol, to 255
+ *    6           length, to 65,575
+ *    7           DSCP, to 63
+ *    8           fragment bits, to 15: DF 1, IsF 2, FF 4, LF 8
+ *    9, 10, 11   whether there are ports, 0 or 1; source port, destination port, to 65,535
+ *   12, 13, 14   whether there are ICMP fields, 0 or 1; type, code, to 255
+ *   15, 16       whether there are TCP flags, 0 or 1; header octet 14 counted from 1, to 255
+ *   17, 18       whether there is a flow label, 0 or 1 and in family 4 always 0; the label, to 1,048,575
+ *   19           0
+ */
+#define KRUBBADIN_PACKET_WORDS 20
+
+/*
+ * Reads a rule from the front of `input` into the first 64 words, its operators into the two lists. With `standard` 0 it is the plain
+ * reading (bgpkit-parser's), which looks at no family; else the standard one in `family`, 4 or 6.
+ *
+ * Accepted: first is the octets used, second the number of operators. All 64 words are written; words after them and places past the last
+ * operator stay. Refused by 8 (plain) or 11 (standard), then by 1 to 5 as the walk meets them, then by 9.
+ */
+struct krubbadin_answer krubbadin_read(uint8_t standard, uint8_t family,
+                                       const uint8_t *input, size_t input_len,
+                                       uint64_t *words, size_t words_len,
+                                       uint64_t *values, size_t values_len,
+                                       uint8_t *octets, size_t octets_len);
+
+/*
+ * Writes the rule in the first 64 words, its operators in the two lists, to the front of `out`. With `standard` 0 it is the plain
+ * writing, else the standard one in `family`; the family in the rule's words is not looked at.
+ *
+ * Accepted: first is the octets written. Later octets of `out` stay. Refused by 11 (standard), 10, 7, 9 in this order.
+ */
+struct krubbadin_answer krubbadin_write(uint8_t standard, uint8_t family,
+                                        const uint64_t *words, size_t words_len,
+                                        const uint64_t *values, size_t values_len,
+                                        const uint8_t *octets, size_t octets_len,
+                                        uint8_t *out, size_t out_len);
+
+/*
+ * Whether the rule in the first 64 words matches the packet.
+ *
+ * Accepted: first is 1 if it does, else 0. Refused by 13; by 10 if the standard writing in the rule's own family refuses it by 11, 10 or
+ * 7; by 14, which carries 0, if its family is not the packet's.
+ */
+struct krubbadin_answer krubbadin_match(const uint64_t *words, size_t words_len,
+                                        const uint64_t *values, size_t values_len,
+                                        const uint8_t *octets, size_t octets_len,
+                                        const uint64_t *packet, size_t packet_len);
+
+/*
+ * Which of two rules precedes (RFC 8955, 5.1; RFC 8956, 4), each with its own lists.
+ *
+ * Accepted: first is 1 if the first precedes, 2 if the second does, 0 if they are equal. Refused by 10 as in krubbadin_match, for either;
+ * by 14, which carries 1, if the second's family is not the first's.
+ */
+struct krubbadin_answer krubbadin_rank(const uint64_t *words, size_t words_len,
+                                       const uint64_t *values, size_t values_len,
+                                       const uint8_t *octets, size_t octets_len,
+                                       const uint64_t *words2, size_t words2_len,
+                                       const uint64_t *values2, size_t values2_len,
+                                       const uint8_t *octets2, size_t octets2_len);
+
+/*
+ * Which rule decides for the packet: of those that match it, the one that precedes the others, of equal ones the first. There are
+ * words_len / 64 rules; the operators of all of them stand in the one pair of lists, and word 54 of each says where its own begin.
+ *
+ * Accepted: first is 1 and second the deciding rule's place, counted from 0; first is 0 if no rule matches. Refused by 12; by 13; by 10
+ * as in krubbadin_match for any rule, or if words are left over; by 14 with the place of the first rule whose family is not the packet's.
+ */
+struct krubbadin_answer krubbadin_choose(const uint64_t *words, size_t words_len,
+                                         const uint64_t *values, size_t values_len,
+                                         const uint8_t *octets, size_t octets_len,
+                                         const uint64_t *packet, size_t packet_len);
+
+/* An operator. On a refusal all but `status` and `carried` is 0. */
+struct krubbadin_operator {
+    uint64_t status;        /* 0, or the number of the refusal */
+    uint64_t carried;       /* what the refusal carries, else 0 */
+    uint64_t end_of_list;   /* 1 the last of its list, else 0 */
+    uint64_t and_with_next; /* 1 joined by AND, else 0; the name is the original's, the RFC joins to the previous */
+    uint64_t value_length;  /* the octets of its value: 1, 2, 4 or 8 */
+    uint64_t flags;         /* numeric: less 4, greater 2, equal 1; bitmask: NOT 2, match 1 */
+    uint64_t value;
+};
+
+/* The operator that an octet and a value are: with `bitmask` 0 numeric, else bitmask. Refused by 5 with the octet if a reserved bit is set. */
+struct krubbadin_operator krubbadin_operator_read(uint8_t bitmask, uint8_t octet, uint64_t value);
+
+/*
+ * The octet of an operator: with `bitmask` 0 numeric, else bitmask. Accepted: first is the octet. Refused by 10: a width other than 1, 2,
+ * 4 or 8, an end_of_list or and_with_next above 1, flags above 7 (numeric) or 3 (bitmask).
+ */
+struct krubbadin_answer krubbadin_operator_write(uint8_t bitmask, uint8_t end_of_list, uint8_t and_with_next,
+                                                 uint8_t value_length, uint8_t flags);
+
+/* The operators that krubbadin_operator_make makes. */
+enum krubbadin_constructor {
+    KRUBBADIN_EQUAL_TO = 0,              /* equal */
+    KRUBBADIN_GREATER_THAN_OR_EQUAL = 1, /* greater, equal */
+    KRUBBADIN_EXACT_MATCH = 2,           /* match bit unset: by the RFC any bit of the mask will do */
+    KRUBBADIN_PARTIAL_MATCH = 3          /* match bit set: by the RFC all bits of the mask are asked for */
+};
+
+/* The operator of a constructor, the last of its list, of the least width that holds the value. Another `which` is refused by 10. */
+struct krubbadin_operator krubbadin_operator_make(uint8_t which, uint64_t value);
+
+#ifdef __cplusplus
+}
+#endif
+
+#endif

@@ -1,0 +1,33 @@
+//! Links libkrubbadin.a, the archive of the proved code: the one that KRUBBADIN_ARCHIVE names, else
+//! what `rt staticlib krubbadin` wrote.
+
+use std::path::PathBuf;
+use std::{env, process};
+
+const NAMED: &str = "KRUBBADIN_ARCHIVE";
+const DEFAULT: &str = "../../target/staticlib/libkrubbadin.a";
+
+fn main() {
+    let archive = env::var_os(NAMED).map_or_else(|| PathBuf::from(DEFAULT), PathBuf::from);
+    // Without these cargo would go on with the old archive when only the archive changed.
+    println!("cargo:rerun-if-env-changed={NAMED}");
+    println!("cargo:rerun-if-changed={}", archive.display());
+    let folder = match archive.canonicalize() {
+        Ok(file) if file.ends_with("libkrubbadin.a") => file.parent().map(PathBuf::from),
+        _ => None,
+    };
+    match folder {
+        Some(folder) => {
+            println!("cargo:rustc-link-search=native={}", folder.display());
+            println!("cargo:rustc-link-lib=static=krubbadin");
+        }
+        None => {
+            eprintln!("{} is no libkrubbadin.a.", archive.display());
+            eprintln!(
+                "Write it with `rt staticlib krubbadin` at the root of the repository, or let"
+            );
+            eprintln!("{NAMED} name the one to link (its file name is libkrubbadin.a).");
+            process::exit(1);
+        }
+    }
+}

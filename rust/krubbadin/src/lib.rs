@@ -1,0 +1,66 @@
+//! BGP FlowSpec rules (RFC 8955, RFC 8956), read, written, matched and ranked by proved code.
+//!
+//! The work is done by libkrubbadin.a, an archive of functions that are proved: each returns on any input, keeps to what it was lent, and
+//! answers exactly what a short definition says. This crate puts Rust's types around them.
+//!
+//! # In place of the flowspec module of bgpkit-parser
+//!
+//! The names and types at the root of this crate are those of that module, so that code written against it goes on with another `use` line:
+//!
+//! ```
+//! // was: use bgpkit_parser::models::{encode_flowspec_nlri, parse_flowspec_nlri, FlowSpecComponent};
+//! use krubbadin::{encode_flowspec_nlri, parse_flowspec_nlri, FlowSpecComponent};
+//!
+//! # fn main() -> Result<(), Box<dyn std::error::Error>> {
+//! let octets = [0x06, 0x03, 0x81, 0x06, 0x05, 0x81, 0x50];
+//! let rule = parse_flowspec_nlri(&octets)?;
+//! if let FlowSpecComponent::DestinationPort(ports) = &rule.components[1] {
+//!     assert_eq!(ports[0].value, 80);
+//! }
+//! assert_eq!(encode_flowspec_nlri(&rule)?, octets);
+//! # Ok(())
+//! # }
+//! ```
+//!
+//! # By the RFCs
+//!
+//! [`read`] and [`write()`] go by the RFCs where the original does not, [`matches()`] says whether a rule matches a packet, [`rank`] and
+//! [`precedes`] which of two rules comes first, and [`choose`] which of many decides:
+//!
+//! ```
+//! use krubbadin::{choose, Family, Packet, Table};
+//!
+//! # fn main() -> Result<(), krubbadin::Refusal> {
+//! let mut table = Table::new();
+//! table.read(Family::Ipv4, &[0x03, 0x01, 0x08, 0x0A])?; // to 10.0.0.0/8
+//! table.read(Family::Ipv4, &[0x06, 0x03, 0x81, 0x06, 0x05, 0x81, 0x50])?; // TCP to port 80
+//! let mut packet = Packet::new([203, 0, 113, 5], [192, 0, 2, 1]);
+//! packet.protocol = 6;
+//! packet.ports = Some((49152, 80));
+//! assert_eq!(choose(&table, &packet)?, Some(1));
+//! # Ok(())
+//! # }
+//! ```
+//!
+//! # Without a heap
+//!
+//! The types above own what they hold. [`surface`] has the archive's calls themselves, on slices that the caller lends.
+
+#![deny(unsafe_code)]
+#![deny(missing_docs)]
+
+mod error;
+pub mod nlri;
+pub mod operators;
+mod packet;
+mod rules;
+mod standard;
+mod stored;
+pub mod surface;
+
+pub use error::{EncodingError, FlowSpecError, Refusal};
+pub use nlri::{encode_flowspec_nlri, parse_flowspec_nlri};
+pub use operators::{BitmaskOperator, NumericOperator};
+pub use packet::Packet;
+pub use rules::{FlowSpecComponent, FlowSpecNlri, NetworkPrefix};
+pub use standard::{choose, matches, precedes, rank, read, write, Family, Table};

@@ -1,0 +1,306 @@
+//! Reading, writing, matching, ranking and choosing by RFC 8955 and RFC 8956.
+
+use crate::error::Refusal;
+use crate::packet::Packet;
+use crate::rules::FlowSpecNlri;
+use crate::stored::{read_rule, with_rule, write_rule, Many};
+use crate::surface;
+use std::cmp::Ordering;
+
+/// The family of a rule: IPv4 (RFC 8955) or IPv6 (RFC 8956).
+///
+/// ```
+/// use krubbadin::{Family, Refusal};
+///
+/// assert_eq!(Family::try_from(6), Ok(Family::Ipv6));
+/// assert_eq!(Family::try_from(5), Err(Refusal::BadFamily(5)));
+/// ```
+#[derive(Debug, Clone, Copy, PartialEq, Eq, Hash, PartialOrd, Ord)]
+pub enum Family {
+    /// IPv4, number 4.
+    Ipv4,
+    /// IPv6, number 6.
+    Ipv6,
+}
+
+impl Family {
+    /// 4 or 6.
+    ///
+    /// ```
+    /// assert_eq!(krubbadin::Family::Ipv4.number(), 4);
+    /// ```
+    pub const fn number(self) -> u8 {
+        match self {
+            Family::Ipv4 => 4,
+            Family::Ipv6 => 6,
+        }
+    }
+}
+
+impl TryFrom<u8> for Family {
+    type Error = Refusal;
+
+    fn try_from(number: u8) -> Result<Self, Refusal> {
+        match number {
+            4 => Ok(Family::Ipv4),
+            6 => Ok(Family::Ipv6),
+            _ => Err(Refusal::BadFamily(number)),
+        }
+    }
+}
+
+/// Reads a rule by the RFCs: the rule, and how many octets it took. Those that follow belong to someone else.
+///
+/// Reserved operator bits and AND on a list's first operator are ignored and read as 0, and so are a prefix's bits outside its range. A
+/// prefix of IPv6 has the form with an offset.
+///
+/// # Errors
+///
+/// The refusals 1 to 4.
+///
+/// ```
+/// use krubbadin::{read, Family, FlowSpecComponent};
+///
+/// let input = [0x03, 0x01, 0x04, 0xFF, 0x00]; // a rule, and the next one's length
+/// let (rule, used) = read(Family::Ipv4, &input).unwrap();
+/// assert_eq!(rule.components, [FlowSpecComponent::DestinationPrefix("240.0.0.0/4".parse().unwrap())]);
+/// assert_eq!(used, 4);
+/// ```
+pub fn read(family: Family, input: &[u8]) -> Result<(FlowSpecNlri, usize), Refusal> {
+    read_rule(1, family.number(), input)
+}
+
+/// Writes a rule by the RFCs.
+///
+/// # Errors
+///
+/// `BadRecord` for a rule that the family does not know: types that do not rise, a prefix of the wrong form or with bits outside its
+/// range, an empty list, an end mark missing or in the wrong place, AND on a first operator, a value too large for its width.
+/// `ValueTooLarge` for a body of more than 4,095 octets.
+///
+/// ```
+/// use krubbadin::{read, write, Family, Refusal};
+///
+/// // RFC 8956, 3.8.2: to 2001:db8::/32, from ::1234:5678:9a00:0, bits 65 to 103
+/// let input = [0x0F, 0x01, 0x20, 0x00, 0x20, 0x01, 0x0D, 0xB8, 0x02, 0x68, 0x41, 0x24, 0x68, 0xAC, 0xF1, 0x34];
+/// let (rule, _) = read(Family::Ipv6, &input).unwrap();
+/// assert_eq!(write(Family::Ipv6, &rule).unwrap(), input);
+/// assert_eq!(write(Family::Ipv4, &rule), Err(Refusal::BadRecord));
+/// ```
+pub fn write(family: Family, rule: &FlowSpecNlri) -> Result<Vec<u8>, Refusal> {
+    write_rule(1, family.number(), rule)
+}
+
+/// Whether a rule matches a packet: whether every component does.
+///
+/// # Errors
+///
+/// `BadPacket`; `BadRecord` or `ValueTooLarge` as [`write()`] has them, both told as `BadRecord`; `MixedFamily` if the packet is of
+/// another family.
+///
+/// ```
+/// use krubbadin::{matches, read, Family, Packet};
+///
+/// // to ports 80, 90 and 443
+/// let (rule, _) = read(Family::Ipv4, &[0x08, 0x05, 0x03, 0x50, 0x45, 0x5A, 0x91, 0x01, 0xBB]).unwrap();
+/// let mut packet = Packet::new([203, 0, 113, 5], [192, 0, 2, 1]);
+/// assert_eq!(matches(Family::Ipv4, &rule, &packet), Ok(false)); // it has no ports
+/// packet.ports = Some((49152, 443));
+/// assert_eq!(matches(Family::Ipv4, &rule, &packet), Ok(true));
+/// ```
+pub fn matches(family: Family, rule: &FlowSpecNlri, packet: &Packet) -> Result<bool, Refusal> {
+    let words = packet.words();
+    let answer = with_rule(family.number(), rule, |rule, values, octets| {
+        surface::matches(rule, values, octets, &words)
+    });
+    // A rule that has no words is refused after the packet, as any other.
+    let answer = answer.unwrap_or_else(|_| surface::matches(&[], &[], &[], &words));
+    Ok(answer.accepted()?.0 == 1)
+}
+
+/// Which of two rules of a family precedes (RFC 8955, 5.1; RFC 8956, 4): `Less` if the first does, `Greater` if the second does.
+///
+/// # Errors
+///
+/// `BadRecord` for a rule that [`write()`] refuses.
+///
+/// ```
+/// use krubbadin::{rank, read, Family};
+/// use std::cmp::Ordering;
+///
+/// let (ten, _) = read(Family::Ipv4, &[0x03, 0x01, 0x08, 0x0A]).unwrap(); // 10.0.0.0/8
+/// let (eleven, _) = read(Family::Ipv4, &[0x04, 0x01, 0x10, 0x0B, 0x00]).unwrap(); // 11.0.0.0/16
+/// assert_eq!(rank(Family::Ipv4, &ten, &eleven), Ok(Ordering::Less));
+/// assert_eq!(rank(Family::Ipv4, &ten, &ten), Ok(Ordering::Equal));
+/// ```
+pub fn rank(family: Family, one: &FlowSpecNlri, two: &FlowSpecNlri) -> Result<Ordering, Refusal> {
+    let family = family.number();
+    let answer = with_rule(family, one, |words, values, octets| {
+        let one = (words, values, octets);
+        with_rule(family, two, |words, values, octets| {
+            surface::rank(one, (words, values, octets))
+        })
+    })??;
+    Ok(match answer.accepted()?.0 {
+        0 => Ordering::Equal,
+        1 => Ordering::Less,
+        _ => Ordering::Greater,
+    })
+}
+
+/// Whether the first of two rules of a family precedes the second. Equal rules do not precede each other.
+///
+/// # Errors
+///
+/// As [`rank`].
+///
+/// ```
+/// use krubbadin::{precedes, read, Family};
+///
+/// let (narrow, _) = read(Family::Ipv4, &[0x04, 0x01, 0x10, 0x0A, 0x01]).unwrap(); // 10.1.0.0/16
+/// let (wide, _) = read(Family::Ipv4, &[0x03, 0x01, 0x08, 0x0A]).unwrap(); // 10.0.0.0/8
+/// assert_eq!(precedes(Family::Ipv4, &narrow, &wide), Ok(true));
+/// assert_eq!(precedes(Family::Ipv4, &wide, &narrow), Ok(false));
+/// ```
+pub fn precedes(family: Family, one: &FlowSpecNlri, two: &FlowSpecNlri) -> Result<bool, Refusal> {
+    Ok(rank(family, one, two)? == Ordering::Less)
+}
+
+/// Rules to choose among, at most 64, kept in the form that choosing takes, so that a choice converts nothing.
+///
+/// ```
+/// use krubbadin::{Family, Table};
+///
+/// let mut table = Table::new();
+/// table.read(Family::Ipv4, &[0x03, 0x01, 0x08, 0x0A]).unwrap();
+/// assert_eq!(table.len(), 1);
+/// ```
+#[derive(Debug, Clone, Default, PartialEq, Eq)]
+pub struct Table {
+    rules: Many,
+}
+
+impl Table {
+    /// The most rules that a table holds.
+    ///
+    /// ```
+    /// assert_eq!(krubbadin::Table::MOST, 64);
+    /// ```
+    pub const MOST: usize = 64;
+
+    /// No rules.
+    ///
+    /// ```
+    /// assert!(krubbadin::Table::new().is_empty());
+    /// ```
+    pub fn new() -> Self {
+        Table::default()
+    }
+
+    /// How many rules there are.
+    ///
+    /// ```
+    /// assert_eq!(krubbadin::Table::new().len(), 0);
+    /// ```
+    pub fn len(&self) -> usize {
+        self.rules.len()
+    }
+
+    /// Whether there are none.
+    ///
+    /// ```
+    /// assert!(krubbadin::Table::new().is_empty());
+    /// ```
+    pub fn is_empty(&self) -> bool {
+        self.len() == 0
+    }
+
+    /// Adds a rule, at the place after the last.
+    ///
+    /// # Errors
+    ///
+    /// `TooManyRules` at the sixty-fifth; what [`write()`] refuses with. A rule that is refused is not added.
+    ///
+    /// ```
+    /// use krubbadin::{Family, FlowSpecComponent, FlowSpecNlri, Refusal, Table};
+    ///
+    /// let mut table = Table::new();
+    /// let rule = |prefix: &str| FlowSpecNlri::new(vec![FlowSpecComponent::DestinationPrefix(prefix.parse().unwrap())]);
+    /// assert_eq!(table.push(Family::Ipv4, &rule("10.0.0.0/8")), Ok(()));
+    /// assert_eq!(table.push(Family::Ipv4, &rule("10.0.0.1/8")), Err(Refusal::BadRecord)); // bits past the length
+    /// assert_eq!(table.len(), 1);
+    /// ```
+    pub fn push(&mut self, family: Family, rule: &FlowSpecNlri) -> Result<(), Refusal> {
+        self.has_place()?;
+        write(family, rule)?;
+        self.rules.push(family.number(), rule)
+    }
+
+    /// Reads a rule by the RFCs and adds it, at the place after the last: how many octets it took.
+    ///
+    /// # Errors
+    ///
+    /// `TooManyRules` at the sixty-fifth; what [`read`] refuses with. A rule that is refused is not added.
+    ///
+    /// ```
+    /// use krubbadin::{Family, Refusal, Table};
+    ///
+    /// let mut table = Table::new();
+    /// assert_eq!(table.read(Family::Ipv4, &[0x03, 0x01, 0x08, 0x0A]), Ok(4));
+    /// assert_eq!(table.read(Family::Ipv4, &[0x02, 0x01, 0x21]), Err(Refusal::InvalidPrefix));
+    /// ```
+    pub fn read(&mut self, family: Family, input: &[u8]) -> Result<usize, Refusal> {
+        self.has_place()?;
+        self.rules.read(family.number(), input)
+    }
+
+    /// Takes off all rules.
+    ///
+    /// ```
+    /// use krubbadin::{Family, Table};
+    ///
+    /// let mut table = Table::new();
+    /// table.read(Family::Ipv4, &[0x00]).unwrap();
+    /// table.clear();
+    /// assert!(table.is_empty());
+    /// ```
+    pub fn clear(&mut self) {
+        self.rules.truncate(0, 0);
+    }
+
+    fn has_place(&self) -> Result<(), Refusal> {
+        match self.len() + 1 {
+            count if count > Table::MOST => Err(Refusal::TooManyRules(count)),
+            _ => Ok(()),
+        }
+    }
+}
+
+/// The place of the rule that decides for a packet, counted from 0: of the rules that match it, the one that precedes the others, of
+/// equal ones the first. `None` if none matches.
+///
+/// # Errors
+///
+/// `BadPacket`; `MixedFamily` with the place of the first rule of another family than the packet's.
+///
+/// ```
+/// use krubbadin::{choose, Family, Packet, Table};
+///
+/// let mut table = Table::new();
+/// table.read(Family::Ipv4, &[0x03, 0x01, 0x08, 0x0A]).unwrap(); // 10.0.0.0/8
+/// table.read(Family::Ipv4, &[0x04, 0x01, 0x10, 0x0A, 0x01]).unwrap(); // 10.1.0.0/16
+/// let to = |address: [u8; 4]| choose(&table, &Packet::new([192, 0, 2, 1], address));
+/// assert_eq!(to([10, 1, 2, 3]), Ok(Some(1)));
+/// assert_eq!(to([10, 2, 0, 1]), Ok(Some(0)));
+/// assert_eq!(to([11, 0, 0, 1]), Ok(None));
+/// ```
+pub fn choose(table: &Table, packet: &Packet) -> Result<Option<usize>, Refusal> {
+    let Many {
+        words,
+        values,
+        octets,
+    } = &table.rules;
+    let answer = surface::choose(words, values, octets, &packet.words());
+    let (found, place) = answer.accepted()?;
+    Ok(Some(place).filter(|_| found == 1))
+}

@@ -1,0 +1,416 @@
+//! Rules as the archive takes them: words, and operators in two lists. `surface` has the layout.
+//!
+//! Between them and owned rules operators are taken apart and put together here, in Rust, since a call for each would cost more than the
+//! reading; a test holds every octet to the archive's own calls.
+
+use crate::error::Refusal;
+use crate::operators::{BitmaskOperator, NumericOperator};
+use crate::rules::{FlowSpecComponent, FlowSpecNlri, NetworkPrefix};
+use crate::surface::{self, COUNT, FAMILY, FIRST, OPERATORS, WORDS};
+use ipnet::{IpNet, Ipv4Net, Ipv6Net};
+use std::net::IpAddr;
+
+/// The most components that a rule has.
+pub(crate) const COMPONENTS: usize = COUNT / 4;
+/// The longest NLRI: two octets of length and a body of 4,095.
+pub(crate) const LONGEST: usize = 4097;
+/// So many operators have their lists on the stack.
+const FEW: usize = 32;
+
+/// Rules one after another, their operators in one pair of lists.
+#[derive(Debug, Clone, Default, PartialEq, Eq)]
+pub(crate) struct Many {
+    pub words: Vec<u64>,
+    pub values: Vec<u64>,
+    pub octets: Vec<u8>,
+}
+
+/// Reads a rule: what it is, and the octets used.
+pub(crate) fn read_rule(
+    standard: u8,
+    family: u8,
+    input: &[u8],
+) -> Result<(FlowSpecNlri, usize), Refusal> {
+    let places = most_operators(input);
+    if places <= FEW {
+        read_within(standard, family, input, &mut [0; FEW], &mut [0; FEW])
+    } else {
+        let (mut values, mut octets) = (vec![0; places], vec![0; places]);
+        read_within(standard, family, input, &mut values, &mut octets)
+    }
+}
+
+fn read_within(
+    standard: u8,
+    family: u8,
+    input: &[u8],
+    values: &mut [u64],
+    octets: &mut [u8],
+) -> Result<(FlowSpecNlri, usize), Refusal> {
+    let mut words = [0; WORDS];
+    let answer = surface::read(standard, family, input, &mut words, values, octets);
+    let (used, _) = answer.accepted()?;
+    let groups = words.chunks_exact(4).take(words[COUNT] as usize);
+    let components = groups.map(|group| component(group, values, octets));
+    Ok((FlowSpecNlri::new(components.collect()), used))
+}
+
+/// No input has more operators: each takes two octets of it at least.
+fn most_operators(input: &[u8]) -> usize {
+    (input.len() / 2).min(OPERATORS)
+}
+
+/// Writes a rule.
+pub(crate) fn write_rule(
+    standard: u8,
+    family: u8,
+    rule: &FlowSpecNlri,
+) -> Result<Vec<u8>, Refusal> {
+    with_rule(family, rule, |words, values, octets| {
+        // At most nine octets an operator, and those of components and length.
+        let most = (9 * values.len() + 19 * COMPONENTS + 2).min(LONGEST);
+        if values.len() <= FEW {
+            let mut out = [0; 9 * FEW + 19 * COMPONENTS + 2];
+            let answer = surface::write(standard, family, words, values, octets, &mut out[..most]);
+            Ok(out[..answer.accepted()?.0].to_vec())
+        } else {
+            let mut out = vec![0; most];
+            let answer = surface::write(standard, family, words, values, octets, &mut out);
+            out.truncate(answer.accepted()?.0);
+            Ok(out)
+        }
+    })?
+}
+
+/// Puts a rule into words and lists and lends them.
+pub(crate) fn with_rule<T>(
+    family: u8,
+    rule: &FlowSpecNlri,
+    call: impl FnOnce(&[u64], &[u64], &[u8]) -> T,
+) -> Result<T, Refusal> {
+    let mut words = [0; WORDS];
+    let count = operators_in(rule);
+    if count <= FEW {
+        let (mut values, mut octets) = ([0; FEW], [0; FEW]);
+        let (values, octets) = (&mut values[..count], &mut octets[..count]);
+        put_rule(family, 0, rule, &mut words, values, octets)?;
+        Ok(call(&words, values, octets))
+    } else {
+        let (mut values, mut octets) = (vec![0; count], vec![0; count]);
+        put_rule(family, 0, rule, &mut words, &mut values, &mut octets)?;
+        Ok(call(&words, &values, &octets))
+    }
+}
+
+impl Many {
+    /// How many rules there are.
+    pub fn len(&self) -> usize {
+        self.words.len() / WORDS
+    }
+
+    /// Takes off what came after so many rules and operators.
+    pub fn truncate(&mut self, rules: usize, operators: usize) {
+        self.words.truncate(WORDS * rules);
+        self.values.truncate(operators);
+        self.octets.truncate(operators);
+    }
+
+    /// Adds a rule. Nothing is added on a refusal.
+    pub fn push(&mut self, family: u8, rule: &FlowSpecNlri) -> Result<(), Refusal> {
+        let (rules, first) = (self.len(), self.values.len());
+        let (words, values, octets) = self.places(operators_in(rule));
+        let put = put_rule(family, first, rule, words, values, octets);
+        if put.is_err() {
+            self.truncate(rules, first);
+        }
+        put
+    }
+
+    /// Reads a rule by the standard and adds it: the octets used. Nothing is added on a refusal.
+    pub fn read(&mut self, family: u8, input: &[u8]) -> Result<usize, Refusal> {
+        let (rules, first) = (self.len(), self.values.len());
+        let (words, values, octets) = self.places(most_operators(input));
+        match surface::read(1, family, input, words, values, octets).accepted() {
+            Ok((used, operators)) => {
+                words[FIRST] = first as u64;
+                self.truncate(rules + 1, first + operators);
+                Ok(used)
+            }
+            Err(refusal) => {
+                self.truncate(rules, first);
+                Err(refusal)
+            }
+        }
+    }
+
+    /// New places for a rule of so many operators.
+    fn places(&mut self, operators: usize) -> (&mut [u64], &mut [u64], &mut [u8]) {
+        let (base, first) = (self.words.len(), self.values.len());
+        self.words.resize(base + WORDS, 0);
+        self.values.resize(first + operators, 0);
+        self.octets.resize(first + operators, 0);
+        (
+            &mut self.words[base..],
+            &mut self.values[first..],
+            &mut self.octets[first..],
+        )
+    }
+}
+
+/// How many operators a rule has.
+pub(crate) fn operators_in(rule: &FlowSpecNlri) -> usize {
+    rule.components
+        .iter()
+        .map(|component| list_of(component).len())
+        .sum()
+}
+
+/// The operators of a component.
+pub(crate) enum List<'a> {
+    None,
+    Numeric(&'a [NumericOperator]),
+    Bitmask(&'a [BitmaskOperator]),
+}
+
+pub(crate) fn list_of(component: &FlowSpecComponent) -> List<'_> {
+    use FlowSpecComponent::*;
+    match component {
+        DestinationPrefix(_)
+        | SourcePrefix(_)
+        | DestinationIpv6Prefix { .. }
+        | SourceIpv6Prefix { .. } => List::None,
+        IpProtocol(list)
+        | Port(list)
+        | DestinationPort(list)
+        | SourcePort(list)
+        | IcmpType(list)
+        | IcmpCode(list)
+        | PacketLength(list)
+        | Dscp(list)
+        | FlowLabel(list) => List::Numeric(list),
+        TcpFlags(list) | Fragment(list) => List::Bitmask(list),
+    }
+}
+
+impl List<'_> {
+    fn len(&self) -> usize {
+        match self {
+            List::None => 0,
+            List::Numeric(list) => list.len(),
+            List::Bitmask(list) => list.len(),
+        }
+    }
+
+    /// The first width that has no code.
+    pub fn odd_width(&self) -> Option<u8> {
+        let odd = |width: &u8| !has_code(*width);
+        match self {
+            List::None => None,
+            List::Numeric(list) => list.iter().map(|one| one.value_length).find(odd),
+            List::Bitmask(list) => list.iter().map(|one| one.value_length).find(odd),
+        }
+    }
+
+    /// Fills places, one for each operator: whether every operator's width has a code.
+    fn fill(&self, values: &mut [u64], octets: &mut [u8]) -> bool {
+        let places = values.iter_mut().zip(octets);
+        let mut coded = true;
+        match self {
+            List::None => {}
+            List::Numeric(list) => {
+                for (one, (value, octet)) in list.iter().zip(places) {
+                    (*value, *octet) = (one.value, numeric_octet(one));
+                    coded &= has_code(one.value_length);
+                }
+            }
+            List::Bitmask(list) => {
+                for (one, (value, octet)) in list.iter().zip(places) {
+                    (*value, *octet) = (one.bitmask, bitmask_octet(one));
+                    coded &= has_code(one.value_length);
+                }
+            }
+        }
+        coded
+    }
+}
+
+/// Puts a rule into 64 words that are 0, and its operators into as many places, which start at `first`. BadRecord if an operator's width
+/// has no code. Whatever else may be wrong with a rule has its words, and the archive refuses it; more than 13 components are counted,
+/// though there is no place for them.
+fn put_rule(
+    family: u8,
+    first: usize,
+    rule: &FlowSpecNlri,
+    words: &mut [u64],
+    values: &mut [u64],
+    octets: &mut [u8],
+) -> Result<(), Refusal> {
+    let mut start = 0;
+    for (at, component) in rule.components.iter().enumerate() {
+        let list = list_of(component);
+        let places = start..start + list.len();
+        if !list.fill(&mut values[places.clone()], &mut octets[places]) {
+            return Err(Refusal::BadRecord);
+        }
+        if at < COMPONENTS {
+            let group = component_words(component, start as u64, list.len() as u64);
+            words[4 * at..4 * at + 4].copy_from_slice(&group);
+        }
+        start += list.len();
+    }
+    words[COUNT] = rule.components.len() as u64;
+    words[FAMILY] = u64::from(family);
+    words[FIRST] = first as u64;
+    Ok(())
+}
+
+/// The four words of a component, its list with this start and this count.
+fn component_words(component: &FlowSpecComponent, start: u64, count: u64) -> [u64; 4] {
+    use FlowSpecComponent::*;
+    let kind = u64::from(component.component_type());
+    match component {
+        DestinationPrefix(prefix) | SourcePrefix(prefix) => prefix_words(kind, prefix, None),
+        DestinationIpv6Prefix { offset, prefix } | SourceIpv6Prefix { offset, prefix } => {
+            prefix_words(kind, prefix, Some(*offset))
+        }
+        _ => [kind, start, count, 0],
+    }
+}
+
+fn prefix_words(kind: u64, prefix: &NetworkPrefix, offset: Option<u8>) -> [u64; 4] {
+    let (form, high, low) = match prefix.prefix.addr() {
+        IpAddr::V4(address) => (0, u64::from(u32::from(address)), 0),
+        IpAddr::V6(address) => {
+            let address = u128::from(address);
+            (1, (address >> 64) as u64, address as u64)
+        }
+    };
+    let (form, offset) = match offset {
+        None => (form, 0),
+        Some(offset) => (form + 2, u64::from(offset)),
+    };
+    let length = u64::from(prefix.prefix.prefix_len());
+    [kind + 16 * form, length + 256 * offset, high, low]
+}
+
+/// The component that four words name, which a reading wrote.
+fn component(group: &[u64], values: &[u64], octets: &[u8]) -> FlowSpecComponent {
+    let (kind, form) = (group[0] % 16, group[0] / 16);
+    if kind > 2 {
+        let (start, count) = (group[1] as usize, group[2] as usize);
+        let places = start..start + count;
+        return list(kind, &values[places.clone()], &octets[places]);
+    }
+    let (length, offset) = ((group[1] % 256) as u8, (group[1] / 256) as u8);
+    let net = match form {
+        0 | 2 => Ipv4Net::new((group[2] as u32).into(), length).map(IpNet::V4),
+        _ => {
+            let address = u128::from(group[2]) << 64 | u128::from(group[3]);
+            Ipv6Net::new(address.into(), length).map(IpNet::V6)
+        }
+    };
+    let prefix = NetworkPrefix::from(net.expect("a length that was read is within its address"));
+    match (kind, form) {
+        (1, 0 | 1) => FlowSpecComponent::DestinationPrefix(prefix),
+        (1, _) => FlowSpecComponent::DestinationIpv6Prefix { offset, prefix },
+        (_, 0 | 1) => FlowSpecComponent::SourcePrefix(prefix),
+        _ => FlowSpecComponent::SourceIpv6Prefix { offset, prefix },
+    }
+}
+
+fn list(kind: u64, values: &[u64], octets: &[u8]) -> FlowSpecComponent {
+    let pairs = || octets.iter().zip(values);
+    let numeric = || {
+        pairs()
+            .map(|(&octet, &value)| numeric_of(octet, value))
+            .collect()
+    };
+    let bitmask = || {
+        pairs()
+            .map(|(&octet, &value)| bitmask_of(octet, value))
+            .collect()
+    };
+    match kind {
+        3 => FlowSpecComponent::IpProtocol(numeric()),
+        4 => FlowSpecComponent::Port(numeric()),
+        5 => FlowSpecComponent::DestinationPort(numeric()),
+        6 => FlowSpecComponent::SourcePort(numeric()),
+        7 => FlowSpecComponent::IcmpType(numeric()),
+        8 => FlowSpecComponent::IcmpCode(numeric()),
+        9 => FlowSpecComponent::TcpFlags(bitmask()),
+        10 => FlowSpecComponent::PacketLength(numeric()),
+        11 => FlowSpecComponent::Dscp(numeric()),
+        12 => FlowSpecComponent::Fragment(bitmask()),
+        _ => FlowSpecComponent::FlowLabel(numeric()),
+    }
+}
+
+/// The operator of an octet without reserved bits, as a reading leaves it.
+fn numeric_of(octet: u8, value: u64) -> NumericOperator {
+    NumericOperator {
+        end_of_list: octet & 0x80 != 0,
+        and_with_next: octet & 0x40 != 0,
+        value_length: 1 << (octet >> 4 & 3),
+        less_than: octet & 0x04 != 0,
+        greater_than: octet & 0x02 != 0,
+        equal: octet & 0x01 != 0,
+        value,
+    }
+}
+
+fn bitmask_of(octet: u8, bitmask: u64) -> BitmaskOperator {
+    BitmaskOperator {
+        end_of_list: octet & 0x80 != 0,
+        and_with_next: octet & 0x40 != 0,
+        value_length: 1 << (octet >> 4 & 3),
+        not: octet & 0x02 != 0,
+        match_flag: octet & 0x01 != 0,
+        bitmask,
+    }
+}
+
+/// Whether a width has a code.
+fn has_code(width: u8) -> bool {
+    width.is_power_of_two() && width <= 8
+}
+
+/// The octet of an operator whose width has a code.
+fn numeric_octet(one: &NumericOperator) -> u8 {
+    let flags =
+        u8::from(one.less_than) << 2 | u8::from(one.greater_than) << 1 | u8::from(one.equal);
+    shared_bits(one.end_of_list, one.and_with_next, one.value_length) | flags
+}
+
+fn bitmask_octet(one: &BitmaskOperator) -> u8 {
+    let flags = u8::from(one.not) << 1 | u8::from(one.match_flag);
+    shared_bits(one.end_of_list, one.and_with_next, one.value_length) | flags
+}
+
+fn shared_bits(end: bool, and: bool, width: u8) -> u8 {
+    u8::from(end) << 7 | u8::from(and) << 6 | (width.trailing_zeros() as u8 & 3) << 4
+}
+
+#[cfg(test)]
+mod tests {
+    use super::*;
+
+    #[test]
+    fn every_octet_and_every_width_is_as_the_archive_has_it() {
+        for octet in 0..=255 {
+            if let Ok(one) = NumericOperator::from_byte_and_value(octet, u64::MAX) {
+                assert_eq!(
+                    (numeric_of(octet, u64::MAX), numeric_octet(&one)),
+                    (one, octet)
+                );
+            }
+            if let Ok(one) = BitmaskOperator::from_byte_and_value(octet, u64::MAX) {
+                assert_eq!(
+                    (bitmask_of(octet, u64::MAX), bitmask_octet(&one)),
+                    (one, octet)
+                );
+            }
+            let written = surface::operator_write(octet % 2, 0, 0, octet, 0);
+            assert_eq!(has_code(octet), written.status == 0);
+        }
+    }
+}

@@ -1,0 +1,289 @@
+//! The standard calls on owned rules say what the surface says on words: readings, writings, and every refusal through the safe types.
+
+#[path = "../../differential/src/inputs.rs"]
+#[allow(dead_code)]
+mod inputs;
+#[path = "../../differential/src/random.rs"]
+#[allow(dead_code)]
+mod random;
+
+use krubbadin::surface::{self, COUNT, FAMILY, OPERATORS, WORDS};
+use krubbadin::*;
+use random::Random;
+use std::cmp::Ordering;
+use std::error::Error;
+
+// What `inputs` asks for.
+#[derive(Debug, Clone, Copy, PartialEq, Eq)]
+pub enum Form {
+    Plain,
+    Standard(u8),
+}
+const LONGEST_INPUT: usize = 4097;
+const LONGEST_BODY: usize = 4095;
+
+const FAMILIES: [Family; 2] = [Family::Ipv4, Family::Ipv6];
+
+fn for_each_input(seed: u64, turns: usize, mut take: impl FnMut(Family, &[u8])) {
+    let mut random = Random::new(seed);
+    let mut input = Vec::new();
+    for turn in 0..turns {
+        let family = FAMILIES[turn % 2];
+        inputs::random(Form::Standard(family.number()), &mut random, &mut input);
+        take(family, &input);
+    }
+}
+
+#[test]
+fn a_rule_that_is_read_is_written_as_the_surface_writes_its_words() {
+    let (mut accepted, mut refused) = (0, 0);
+    for_each_input(1, 20_000, |family, input| {
+        let number = family.number();
+        let (mut words, mut values, mut octets) = ([0; WORDS], [0; OPERATORS], [0; OPERATORS]);
+        let answer = surface::read(1, number, input, &mut words, &mut values, &mut octets);
+        match read(family, input) {
+            Ok((rule, used)) => {
+                accepted += 1;
+                let lists: usize = rule.components.iter().map(operators).sum();
+                assert_eq!(answer.accepted(), Ok((used, lists)));
+                assert_eq!(words[COUNT], rule.components.len() as u64);
+                assert_eq!(words[FAMILY], u64::from(number));
+                let mut out = vec![0; LONGEST_INPUT];
+                let written = surface::write(1, number, &words, &values, &octets, &mut out);
+                let (written, _) = written.accepted().unwrap();
+                assert_eq!(write(family, &rule).unwrap(), out[..written]);
+                let again = read(family, &out[..written]).unwrap();
+                assert_eq!(again, (rule, written));
+            }
+            Err(refusal) => {
+                refused += 1;
+                assert_eq!(answer.accepted(), Err(refusal));
+                assert_eq!(answer.status, u64::from(refusal.number()));
+                let carried: Vec<u64> = refusal.carried().collect();
+                assert_eq!(carried, [answer.first, answer.second][..carried.len()]);
+            }
+        }
+    });
+    assert!(accepted > 5_000 && refused > 5_000, "{accepted} {refused}");
+}
+
+fn operators(component: &FlowSpecComponent) -> usize {
+    use FlowSpecComponent::*;
+    match component {
+        IpProtocol(list)
+        | Port(list)
+        | DestinationPort(list)
+        | SourcePort(list)
+        | IcmpType(list)
+        | IcmpCode(list)
+        | PacketLength(list)
+        | Dscp(list)
+        | FlowLabel(list) => list.len(),
+        TcpFlags(list) | Fragment(list) => list.len(),
+        _ => 0,
+    }
+}
+
+#[test]
+fn owned_rules_match_rank_and_choose_as_tables_of_words_do() {
+    let mut rules = [Vec::new(), Vec::new()];
+    for_each_input(2, 1_000, |family, input| {
+        if let Ok((rule, _)) = read(family, input) {
+            rules[usize::from(family == Family::Ipv6)].push((rule, input.to_vec()));
+        }
+    });
+    let packets = [
+        Packet::new([10, 1, 2, 3], [192, 0, 2, 1]),
+        Packet::new(
+            [0x20, 0x01, 0x0D, 0xB8, 0, 0, 0, 0, 0, 0, 0, 0, 0, 0, 0, 1],
+            [0xFF; 16],
+        ),
+    ];
+    for ((family, rules), mut packet) in FAMILIES.into_iter().zip(&rules).zip(packets) {
+        packet.protocol = 6;
+        packet.ports = Some((25, 443));
+        packet.tcp_flags = Some(0x12);
+        let (mut owned, mut words) = (Table::new(), Table::new());
+        for (rule, input) in rules.iter().take(Table::MOST) {
+            owned.push(family, rule).unwrap();
+            words.read(family, input).unwrap();
+        }
+        assert_eq!(owned, words);
+        let first = rules.first().unwrap();
+        assert_eq!(owned.push(family, &first.0), Err(Refusal::TooManyRules(65)));
+        assert_eq!(words.read(family, &first.1), Err(Refusal::TooManyRules(65)));
+
+        let chosen = choose(&owned, &packet).unwrap();
+        let mut matching = Vec::new();
+        for (place, (rule, _)) in rules.iter().take(Table::MOST).enumerate() {
+            if matches(family, rule, &packet).unwrap() {
+                matching.push(place);
+            }
+        }
+        let by_rank =
+            |&one: &usize, &two: &usize| rank(family, &rules[one].0, &rules[two].0).unwrap();
+        assert_eq!(chosen, matching.iter().copied().min_by(by_rank));
+    }
+}
+
+#[test]
+fn ranking_is_an_order() {
+    for_each_input(3, 400, |family, one| {
+        for_each_input(4, 20, |other, two| {
+            if let (true, Ok((one, _)), Ok((two, _))) =
+                (family == other, read(family, one), read(family, two))
+            {
+                let ranked = rank(family, &one, &two).unwrap();
+                assert_eq!(rank(family, &two, &one), Ok(ranked.reverse()));
+                assert_eq!(precedes(family, &one, &two), Ok(ranked == Ordering::Less));
+            }
+        });
+    });
+}
+
+#[test]
+fn each_refusal_is_met_where_it_belongs() {
+    let ten = FlowSpecComponent::DestinationPrefix("10.0.0.0/8".parse().unwrap());
+    let rule = FlowSpecNlri::new(vec![ten.clone()]);
+    let four = Packet::new([10, 1, 2, 3], [10, 0, 0, 1]);
+    let six = Packet::new([0; 16], [0; 16]);
+    let mut odd = NumericOperator::equal_to(6);
+    odd.value_length = 3;
+    let odd = FlowSpecNlri::new(vec![FlowSpecComponent::IpProtocol(vec![odd])]);
+    let long = vec![
+        NumericOperator {
+            end_of_list: false,
+            ..NumericOperator::equal_to(1 << 40)
+        };
+        455
+    ];
+    let mut long = [long, vec![NumericOperator::equal_to(1 << 40)]].concat();
+
+    assert_eq!(Family::try_from(0), Err(Refusal::BadFamily(0)));
+    assert_eq!(write(Family::Ipv6, &rule), Err(Refusal::BadRecord));
+    assert_eq!(write(Family::Ipv4, &odd), Err(Refusal::BadRecord));
+    assert_eq!(
+        matches(Family::Ipv4, &rule, &six),
+        Err(Refusal::MixedFamily(0))
+    );
+    assert_eq!(matches(Family::Ipv4, &odd, &four), Err(Refusal::BadRecord));
+    assert_eq!(rank(Family::Ipv4, &odd, &rule), Err(Refusal::BadRecord));
+    let mixed = Packet::new([10, 1, 2, 3], [0; 16]);
+    assert_eq!(
+        matches(Family::Ipv4, &rule, &mixed),
+        Err(Refusal::BadPacket)
+    );
+    // The packet is looked at before the rule.
+    assert_eq!(matches(Family::Ipv4, &odd, &mixed), Err(Refusal::BadPacket));
+    for bad in [
+        Packet {
+            length: 65_576,
+            ..four
+        },
+        Packet { dscp: 64, ..four },
+        Packet {
+            fragment: 16,
+            ..four
+        },
+        Packet {
+            tcp_flags: Some(256),
+            ..four
+        },
+        Packet {
+            flow_label: Some(0),
+            ..four
+        },
+        Packet {
+            flow_label: Some(1 << 20),
+            ..six
+        },
+    ] {
+        assert_eq!(
+            choose(&Table::new(), &bad),
+            Err(Refusal::BadPacket),
+            "{bad:?}"
+        );
+    }
+
+    assert_eq!(
+        write(
+            Family::Ipv4,
+            &FlowSpecNlri::new(vec![FlowSpecComponent::Port(long.clone())])
+        ),
+        Err(Refusal::ValueTooLarge(4105))
+    );
+    long.remove(0);
+    long.remove(0);
+    assert_eq!(
+        write(
+            Family::Ipv4,
+            &FlowSpecNlri::new(vec![FlowSpecComponent::Port(long)])
+        )
+        .unwrap()
+        .len(),
+        4089
+    );
+    let many = FlowSpecNlri::new(vec![ten; 14]);
+    assert_eq!(write(Family::Ipv4, &many), Err(Refusal::BadRecord));
+    let error = encode_flowspec_nlri(&many).unwrap_err();
+    assert!(error.to_string().contains("14 components"), "{error}");
+    let error = encode_flowspec_nlri(&odd).unwrap_err();
+    assert!(error.to_string().contains("3 octets"), "{error}");
+    let many = FlowSpecNlri::new(vec![FlowSpecComponent::Port(vec![
+        NumericOperator::equal_to(
+            6
+        );
+        2048
+    ])]);
+    let error = encode_flowspec_nlri(&many).unwrap_err();
+    assert!(error.to_string().contains("2048 operators"), "{error}");
+
+    let mut table = Table::new();
+    table.push(Family::Ipv4, &rule).unwrap();
+    assert_eq!(table.push(Family::Ipv4, &odd), Err(Refusal::BadRecord));
+    assert_eq!(table.push(Family::Ipv6, &rule), Err(Refusal::BadRecord));
+    assert_eq!(table.len(), 1);
+    table.read(Family::Ipv6, &[0x03, 0x03, 0x81, 0x06]).unwrap();
+    assert_eq!(choose(&table, &four), Err(Refusal::MixedFamily(1)));
+    assert_eq!(choose(&table, &six), Err(Refusal::MixedFamily(0)));
+    table.clear();
+    assert_eq!(choose(&table, &six), Ok(None));
+}
+
+#[test]
+fn an_error_says_what_it_carries() {
+    let all = [
+        (Refusal::InsufficientData, vec![]),
+        (
+            Refusal::InvalidComponentOrder {
+                expected_greater_than: 101,
+                found: 102,
+            },
+            vec!["101", "102"],
+        ),
+        (Refusal::InvalidComponentType(103), vec!["103"]),
+        (Refusal::InvalidPrefix, vec![]),
+        (Refusal::InvalidOperator(0xAB), vec!["0xAB"]),
+        (Refusal::InvalidValueLength(104), vec!["104"]),
+        (Refusal::ValueTooLarge(5105), vec!["5105", "4095"]),
+        (Refusal::InputTooLong(5106), vec!["5106", "4097"]),
+        (Refusal::NoRoom(107), vec!["107"]),
+        (Refusal::BadRecord, vec![]),
+        (Refusal::BadFamily(108), vec!["108"]),
+        (Refusal::TooManyRules(109), vec!["109", "64"]),
+        (Refusal::BadPacket, vec![]),
+        (Refusal::MixedFamily(110), vec!["110"]),
+    ];
+    for (place, (refusal, words)) in all.into_iter().enumerate() {
+        assert_eq!(usize::from(refusal.number()), place + 1);
+        let error: Box<dyn Error> = Box::new(refusal);
+        let text = error.to_string();
+        assert!(
+            text.len() > 10 && words.iter().all(|word| text.contains(word)),
+            "{text}"
+        );
+        if let Ok(error) = FlowSpecError::try_from(refusal) {
+            assert_eq!(Refusal::from(error), refusal);
+        }
+    }
+}

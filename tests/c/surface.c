@@ -1,0 +1,299 @@
+/*
+ * The surface from C: document 01's cases ("## Cases") and its refusals through include/krubbadin.h. Prints each check that fails, and last
+ * 'N checks, M failed'. tests/c/run builds and runs it, also as C++.
+ */
+#include "krubbadin.h"
+
+#include <stdio.h>
+#include <string.h>
+
+static unsigned checks, failed;
+
+static void check(int holds, int line, const char *what)
+{
+    checks++;
+    if (!holds) {
+        failed++;
+        printf("surface.c:%d: %s\n", line, what);
+    }
+}
+
+#define CHECK(holds) check((holds), __LINE__, #holds)
+
+/* What is lent, with neighbours that must stay. */
+struct lent {
+    uint64_t words[KRUBBADIN_RULE_WORDS + 1];
+    uint64_t values[8];
+    uint8_t octets[8];
+};
+
+static struct lent fresh(void)
+{
+    struct lent l;
+    memset(&l, 0xA5, sizeof l);
+    return l;
+}
+
+static int untouched(const struct lent *l)
+{
+    struct lent f = fresh();
+    return memcmp(l, &f, sizeof f) == 0;
+}
+
+static int is(struct krubbadin_answer a, uint64_t status, uint64_t first, uint64_t second)
+{
+    return a.status == status && a.first == first && a.second == second;
+}
+
+/* Reads into a fresh rule with all its places; plain is family 0. */
+static struct krubbadin_answer reads(uint8_t family, const uint8_t *input, size_t length, struct lent *l)
+{
+    *l = fresh();
+    return krubbadin_read(family != 0, family, input, length, l->words, 64, l->values, 8, l->octets, 8);
+}
+
+/* The octets stand in a text. */
+#define READS(family, l, text) reads((family), (const uint8_t *)(text), sizeof(text) - 1, (l))
+
+/* A packet of family 4 from 192.0.2.1, with nothing else in it. */
+static void packet4(uint64_t packet[20], uint64_t destination)
+{
+    memset(packet, 0, 20 * sizeof *packet);
+    packet[0] = 4;
+    packet[2] = destination;
+    packet[4] = 0xC0000201;
+}
+
+static void the_port_case(void)
+{
+    const uint8_t input[] = {0x08, 0x05, 0x03, 0x50, 0x45, 0x5A, 0x91, 0x01, 0xBB};
+    const uint64_t component[] = {5, 0, 3, 0};
+    uint8_t out[10];
+    uint8_t family;
+    for (family = 0; family <= 6; family += 2) {
+        struct lent l;
+        struct lent f = fresh();
+        size_t i;
+        if (family == 2) {
+            continue;
+        }
+        CHECK(is(reads(family, input, sizeof input, &l), 0, 9, 3));
+        CHECK(memcmp(l.words, component, sizeof component) == 0);
+        for (i = 4; i < 52; i++) {
+            CHECK(l.words[i] == 0);
+        }
+        CHECK(l.words[KRUBBADIN_WORD_COUNT] == 1 && l.words[KRUBBADIN_WORD_FAMILY] == family && l.words[KRUBBADIN_WORD_FIRST] == 0);
+        for (i = 55; i < 64; i++) {
+            CHECK(l.words[i] == 0);
+        }
+        CHECK(l.values[0] == 80 && l.values[1] == 90 && l.values[2] == 443);
+        CHECK(l.octets[0] == 0x03 && l.octets[1] == 0x45 && l.octets[2] == 0x91);
+        CHECK(l.words[64] == f.words[64]);
+        CHECK(memcmp(l.values + 3, f.values + 3, sizeof f.values - 3 * sizeof *f.values) == 0);
+        CHECK(memcmp(l.octets + 3, f.octets + 3, sizeof f.octets - 3) == 0);
+
+        memset(out, 0xEE, sizeof out);
+        CHECK(is(krubbadin_write(family != 0, family, l.words, 64, l.values, 8, l.octets, 8, out, 10), 0, 9, 0));
+        CHECK(memcmp(out, input, 9) == 0 && out[9] == 0xEE);
+        memset(out, 0xEE, sizeof out);
+        CHECK(is(krubbadin_write(family != 0, family, l.words, 64, l.values, 8, l.octets, 8, out, 8), 9, 9, 0));
+        CHECK(out[0] == 0xEE && out[7] == 0xEE);
+    }
+}
+
+static void accepted(void)
+{
+    struct lent l;
+    uint8_t out[6];
+    const uint8_t rewritten[] = {0x05, 0x01, 0x18, 0xC0, 0x00, 0x02};
+    CHECK(is(READS(0, &l, "\x00"), 0, 1, 0) && l.words[52] == 0);
+    CHECK(is(READS(4, &l, "\x00"), 0, 1, 0) && l.words[52] == 0 && l.words[53] == 4);
+
+    CHECK(is(READS(4, &l, "\xF0\x05\x01\x18\xC0\x00\x02"), 0, 7, 0));
+    CHECK(l.words[0] == 1 && l.words[1] == 24 && l.words[2] == 0xC0000200 && l.words[3] == 0);
+    CHECK(is(krubbadin_write(1, 4, l.words, 64, NULL, 0, NULL, 0, out, 6), 0, 6, 0));
+    CHECK(memcmp(out, rewritten, 6) == 0);
+
+    CHECK(is(READS(0, &l, "\x02\x03\x81\x06\x05"), 0, 3, 1) && l.values[0] == 6);
+    CHECK(is(READS(4, &l, "\x03\x03\x89\x06"), 0, 4, 1) && l.octets[0] == 0x81 && l.values[0] == 6);
+    CHECK(is(READS(0, &l, "\x03\x01\x04\xFF"), 0, 4, 0) && l.words[2] == 0xFF000000);
+    CHECK(is(READS(4, &l, "\x03\x01\x04\xFF"), 0, 4, 0) && l.words[2] == 0xF0000000);
+    CHECK(is(READS(6, &l, "\x04\x01\x41\x3F\xC0"), 0, 5, 0));
+    CHECK(l.words[0] == 1 + 16 * 3 && l.words[1] == 65 + 256 * 63 && l.words[2] == 1 && l.words[3] == 0x8000000000000000);
+    CHECK(is(READS(6, &l, "\x03\x01\x00\x00"), 0, 4, 0) && l.words[0] == 1 + 16 * 3 && l.words[1] == 0);
+}
+
+static void refused(void)
+{
+    static uint8_t many[4098];
+    struct lent l;
+    uint64_t rule[64] = {0};
+    uint8_t out[4];
+    CHECK(is(reads(0, NULL, 0, &l), 1, 0, 0) && untouched(&l));
+    CHECK(is(READS(0, &l, "\xF0"), 1, 0, 0) && untouched(&l));
+    CHECK(is(READS(4, &l, "\xEF"), 1, 0, 0) && untouched(&l));
+    CHECK(is(READS(4, &l, "\x02\x03\x81\x06\x05"), 1, 0, 0) && untouched(&l));
+    CHECK(is(READS(0, &l, "\x03\x03\x89\x06"), 5, 0x89, 0) && untouched(&l));
+    CHECK(is(READS(0, &l, "\x02\x03\x89"), 1, 0, 0) && untouched(&l));
+    CHECK(is(READS(0, &l, "\x01\x00"), 2, 0, 0) && untouched(&l));
+    CHECK(is(READS(0, &l, "\x01\x0E"), 3, 14, 0) && untouched(&l));
+    CHECK(is(READS(4, &l, "\x06\x03\x81\x06\x03\x81\x11"), 2, 3, 3) && untouched(&l));
+    CHECK(is(READS(0, &l, "\x02\x01\x81"), 4, 0, 0) && untouched(&l));
+    CHECK(is(READS(4, &l, "\x02\x01\x81"), 4, 0, 0) && untouched(&l));
+    CHECK(is(READS(6, &l, "\x02\x01\x81"), 1, 0, 0) && untouched(&l));
+    CHECK(is(READS(0, &l, "\x02\x01\x21"), 1, 0, 0) && untouched(&l));
+    CHECK(is(READS(4, &l, "\x02\x01\x21"), 4, 0, 0) && untouched(&l));
+    CHECK(is(READS(0, &l, "\x04\x0D\x81\x00\x0E"), 3, 14, 0) && untouched(&l));
+    CHECK(is(READS(4, &l, "\x04\x0D\x81\x00\x0E"), 3, 13, 0) && untouched(&l));
+    CHECK(is(READS(6, &l, "\x03\x01\x40\x40"), 4, 0, 0) && untouched(&l));
+    CHECK(is(READS(5, &l, "\x00"), 11, 5, 0) && untouched(&l));
+    CHECK(is(reads(0, many, sizeof many, &l), 8, 4098, 0) && untouched(&l));
+    CHECK(is(reads(4, many, sizeof many, &l), 0, 1, 0));
+
+    /* rooms: words, values, octets */
+    l = fresh();
+    CHECK(is(krubbadin_read(0, 0, many, 1, l.words, 63, l.values, 8, l.octets, 8), 9, 1, 0) && untouched(&l));
+    many[0] = 0x03, many[1] = 0x03, many[2] = 0x81, many[3] = 0x06;
+    CHECK(is(krubbadin_read(0, 0, many, 4, l.words, 64, l.values, 0, l.octets, 8), 9, 1, 0) && untouched(&l));
+    CHECK(is(krubbadin_read(1, 4, many, 4, l.words, 64, l.values, 8, NULL, 0), 9, 1, 0) && untouched(&l));
+
+    /* words that are no rule: too few, a word that must be 0, a count over 13, operators outside the lists */
+    CHECK(is(krubbadin_write(0, 0, rule, 63, NULL, 0, NULL, 0, out, 4), 10, 0, 0));
+    CHECK(is(krubbadin_write(0, 0, rule, 64, NULL, 0, NULL, 0, out, 4), 0, 1, 0) && out[0] == 0);
+    rule[63] = 1;
+    CHECK(is(krubbadin_write(0, 0, rule, 64, NULL, 0, NULL, 0, out, 4), 10, 0, 0));
+    rule[63] = 0, rule[52] = 14;
+    CHECK(is(krubbadin_write(0, 0, rule, 64, NULL, 0, NULL, 0, out, 4), 10, 0, 0));
+    rule[52] = 1, rule[0] = 3, rule[2] = 1;
+    CHECK(is(krubbadin_write(0, 0, rule, 64, NULL, 0, NULL, 0, out, 4), 10, 0, 0));
+    CHECK(is(krubbadin_write(1, 7, rule, 64, NULL, 0, NULL, 0, out, 4), 11, 7, 0));
+}
+
+static void matched(void)
+{
+    const uint16_t ports[] = {80, 90, 443, 79, 91};
+    struct lent l;
+    uint64_t packet[20];
+    size_t i;
+    READS(4, &l, "\x08\x05\x03\x50\x45\x5A\x91\x01\xBB");
+    packet4(packet, 0x0A010203);
+    CHECK(is(krubbadin_match(l.words, 64, l.values, 8, l.octets, 8, packet, 20), 0, 0, 0));
+    packet[9] = 1;
+    for (i = 0; i < 5; i++) {
+        packet[11] = ports[i];
+        CHECK(is(krubbadin_match(l.words, 64, l.values, 8, l.octets, 8, packet, 20), 0, i < 3, 0));
+    }
+    CHECK(is(krubbadin_match(l.words, 64, l.values, 2, l.octets, 8, packet, 20), 10, 0, 0));
+    CHECK(is(krubbadin_match(l.words, 64, l.values, 8, l.octets, 8, packet, 19), 13, 0, 0));
+    packet[5] = 256;
+    CHECK(is(krubbadin_match(l.words, 64, l.values, 8, l.octets, 8, packet, 20), 13, 0, 0));
+    packet[5] = 0;
+    l.words[KRUBBADIN_WORD_FAMILY] = 6;
+    CHECK(is(krubbadin_match(l.words, 64, l.values, 8, l.octets, 8, packet, 20), 14, 0, 0));
+
+    packet4(packet, 0x0A010203);
+    packet[15] = 1, packet[16] = 0x12;
+    READS(4, &l, "\x03\x09\x81\x12");
+    CHECK(is(krubbadin_match(l.words, 64, l.values, 8, l.octets, 8, packet, 20), 0, 1, 0));
+    packet[16] = 0x02;
+    CHECK(is(krubbadin_match(l.words, 64, l.values, 8, l.octets, 8, packet, 20), 0, 0, 0));
+    READS(4, &l, "\x03\x09\x80\x12");
+    CHECK(is(krubbadin_match(l.words, 64, l.values, 8, l.octets, 8, packet, 20), 0, 1, 0));
+}
+
+static void ranked(void)
+{
+    struct lent ten, eleven, list;
+    READS(4, &ten, "\x03\x01\x08\x0A");
+    READS(4, &eleven, "\x04\x01\x10\x0B\x00");
+    READS(4, &list, "\x03\x03\x81\x06");
+    CHECK(is(krubbadin_rank(ten.words, 64, NULL, 0, NULL, 0, eleven.words, 64, NULL, 0, NULL, 0), 0, 1, 0));
+    CHECK(is(krubbadin_rank(eleven.words, 64, NULL, 0, NULL, 0, ten.words, 64, NULL, 0, NULL, 0), 0, 2, 0));
+    CHECK(is(krubbadin_rank(ten.words, 64, NULL, 0, NULL, 0, ten.words, 64, NULL, 0, NULL, 0), 0, 0, 0));
+    CHECK(is(krubbadin_rank(ten.words, 64, NULL, 0, NULL, 0, list.words, 64, list.values, 1, list.octets, 1), 0, 1, 0));
+    CHECK(is(krubbadin_rank(ten.words, 64, NULL, 0, NULL, 0, list.words, 64, NULL, 0, NULL, 0), 10, 0, 0));
+    eleven.words[KRUBBADIN_WORD_FAMILY] = 6;
+    eleven.words[0] = 1 + 16 * 3;
+    eleven.words[2] = 0;
+    CHECK(is(krubbadin_rank(ten.words, 64, NULL, 0, NULL, 0, eleven.words, 64, NULL, 0, NULL, 0), 14, 1, 0));
+}
+
+static void chosen(void)
+{
+    static uint64_t many[65 * 64];
+    const uint64_t destinations[] = {0x0A010203, 0x0A020001, 0x0B000001};
+    uint64_t words[128], packet[20];
+    struct lent l;
+    READS(4, &l, "\x03\x01\x08\x0A");
+    memcpy(words, l.words, 64 * sizeof *words);
+    READS(4, &l, "\x04\x01\x10\x0A\x01");
+    memcpy(words + 64, l.words, 64 * sizeof *words);
+    packet4(packet, destinations[0]);
+    CHECK(is(krubbadin_choose(words, 128, NULL, 0, NULL, 0, packet, 20), 0, 1, 1));
+    CHECK(is(krubbadin_choose(words, 127, NULL, 0, NULL, 0, packet, 20), 10, 0, 0));
+    CHECK(is(krubbadin_choose(NULL, 0, NULL, 0, NULL, 0, packet, 20), 0, 0, 0));
+    CHECK(is(krubbadin_choose(NULL, 0, NULL, 0, NULL, 0, NULL, 0), 13, 0, 0));
+    packet4(packet, destinations[1]);
+    CHECK(is(krubbadin_choose(words, 128, NULL, 0, NULL, 0, packet, 20), 0, 1, 0));
+    packet4(packet, destinations[2]);
+    CHECK(is(krubbadin_choose(words, 128, NULL, 0, NULL, 0, packet, 20), 0, 0, 0));
+    words[64 + KRUBBADIN_WORD_FAMILY] = 0;
+    CHECK(is(krubbadin_choose(words, 128, NULL, 0, NULL, 0, packet, 20), 10, 0, 0));
+    memset(words + 64, 0, 64 * sizeof *words);
+    words[64 + KRUBBADIN_WORD_FAMILY] = 6;
+    CHECK(is(krubbadin_choose(words, 128, NULL, 0, NULL, 0, packet, 20), 14, 1, 0));
+    CHECK(is(krubbadin_choose(many, 65 * 64, NULL, 0, NULL, 0, NULL, 0), 12, 65, 0));
+}
+
+static void operators(void)
+{
+    struct krubbadin_operator o = krubbadin_operator_read(0, 0x45, 90);
+    unsigned octet;
+    CHECK(o.status == 0 && o.carried == 0 && o.end_of_list == 0 && o.and_with_next == 1);
+    CHECK(o.value_length == 1 && o.flags == 5 && o.value == 90);
+    o = krubbadin_operator_read(1, 0x85, 90);
+    CHECK(o.status == 5 && o.carried == 0x85 && o.end_of_list == 0 && o.value_length == 0 && o.flags == 0 && o.value == 0);
+    for (octet = 0; octet < 256; octet++) {
+        uint8_t bitmask;
+        for (bitmask = 0; bitmask < 2; bitmask++) {
+            o = krubbadin_operator_read(bitmask, (uint8_t)octet, UINT64_MAX);
+            if (octet & (bitmask ? 0x0Cu : 0x08u)) {
+                CHECK(o.status == 5 && o.carried == octet);
+            } else {
+                CHECK(o.status == 0 && o.value == UINT64_MAX);
+                CHECK(is(krubbadin_operator_write(bitmask, (uint8_t)o.end_of_list, (uint8_t)o.and_with_next,
+                                                  (uint8_t)o.value_length, (uint8_t)o.flags),
+                         0, octet, 0));
+            }
+        }
+    }
+    CHECK(is(krubbadin_operator_write(0, 1, 0, 3, 1), 10, 0, 0));
+    CHECK(is(krubbadin_operator_write(0, 2, 0, 1, 1), 10, 0, 0));
+    CHECK(is(krubbadin_operator_write(0, 1, 2, 1, 1), 10, 0, 0));
+    CHECK(is(krubbadin_operator_write(0, 1, 0, 1, 8), 10, 0, 0));
+    CHECK(is(krubbadin_operator_write(1, 1, 0, 1, 4), 10, 0, 0));
+
+    o = krubbadin_operator_make(KRUBBADIN_EQUAL_TO, 443);
+    CHECK(o.status == 0 && o.end_of_list == 1 && o.and_with_next == 0 && o.value_length == 2 && o.flags == 1 && o.value == 443);
+    o = krubbadin_operator_make(KRUBBADIN_GREATER_THAN_OR_EQUAL, 0x10000);
+    CHECK(o.status == 0 && o.value_length == 4 && o.flags == 3 && o.value == 0x10000);
+    o = krubbadin_operator_make(KRUBBADIN_EXACT_MATCH, 0x12);
+    CHECK(o.status == 0 && o.value_length == 1 && o.flags == 0 && o.value == 0x12);
+    o = krubbadin_operator_make(KRUBBADIN_PARTIAL_MATCH, 0x100000000);
+    CHECK(o.status == 0 && o.value_length == 8 && o.flags == 1 && o.value == 0x100000000);
+    o = krubbadin_operator_make(4, 6);
+    CHECK(o.status == 10 && o.carried == 0 && o.end_of_list == 0 && o.value_length == 0 && o.value == 0);
+}
+
+int main(void)
+{
+    the_port_case();
+    accepted();
+    refused();
+    matched();
+    ranked();
+    chosen();
+    operators();
+    printf("%u checks, %u failed\n", checks, failed);
+    return failed != 0;
+}
