@@ -1,5 +1,6 @@
 -- Demand 3, in the user's terms. Let a table hold at most 64 well-formed rules of one family, stored in any order, and let the packet be of
--- that family with its fields in range. Then the chooser accepts (`accepts-exactly`), and of what it answers (`decides`):
+-- that family with its fields in range. Then, and in no other case, the chooser accepts (`accepts-where`, `accepts-exactly`), and of what it
+-- answers (`decides`):
 --
 -- - the rule that it names is stored and matches;
 -- - no other rule that matches precedes it by the RFCs' order;

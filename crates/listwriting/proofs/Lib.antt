@@ -1,3 +1,4 @@
 pub mod Marks
 pub mod Puts
+pub mod Quicks
 pub mod Sizes

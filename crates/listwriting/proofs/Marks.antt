@@ -20,7 +20,11 @@ at-most v m n e =
     (λ t. t ∙ sym (lt-ltb v n (omega (arith, leb-true v m t))))
     (λ t. t ∙ sym (le-ltb v n (omega (arith, leb-false v m t))))
 
-pub fits-by : (code v : ℕ) → code < 4 → leb v (getD (255 ∷ 65535 ∷ 4294967295 ∷ 18446744073709551615 ∷ []) code 0) ≡ ltb v (2 ^ (8 * getD widths code 0))
+-- the largest value of each width, by the width's code
+abbrev pub most : List ℕ
+most = 255 ∷ 65535 ∷ 4294967295 ∷ 18446744073709551615 ∷ []
+
+pub fits-by : (code v : ℕ) → code < 4 → leb v (getD most code 0) ≡ ltb v (2 ^ (8 * getD widths code 0))
 fits-by zero v h = at-most v 255 256 refl
 fits-by (suc zero) v h = at-most v 65535 65536 refl
 fits-by (suc (suc zero)) v h = at-most v 4294967295 4294967296 refl

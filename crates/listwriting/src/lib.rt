@@ -4,13 +4,14 @@
 // The functions with a `requires` are no entry points: a writer has tested that the list lies within the lent lists and that there is
 // room before it writes the first octet, since a refusal changes nothing.
 ghost use mathlib.Core.Path.{_≡_};
+ghost use mathlib.Core.Bool.{true};
 ghost use Prim.Native.Nat.{_+_, _-_, _<_, _≤_};
 ghost use lib.ListN.{length, getD};
 ghost use lib.Seq.{sets};
 ghost use Rattle.octets.specs.Widths.{widths, codeIn};
 ghost use Rattle.choices.specs.Operators.{opsIn, listOctets};
-ghost use Rattle.listwriting.specs.Lists.{sizeIn, fitsIn, takes};
-ghost use Rattle.listwriting.specs.Runs.{Put};
+ghost use Rattle.listwriting.specs.Lists.{sizeIn, fitsIn, ends, takes};
+ghost use Rattle.listwriting.specs.Runs.{Put, Alike, Within};
 use choices::Kind;
 
 // The largest value of each width, by the width's code.
@@ -39,18 +40,55 @@ fn fits(octet: u8, value: u64) -> bool
     value <= MOST[code]
 }
 
-// Whether the standard writing takes the operators at so many places. No entry point.
-pub fn taken(values: &[u64], octets: &[u8], from: usize, count: usize) -> bool
-    requires { ⌜ (from + count ≤ length (now values)) × (from + count ≤ length (now octets)) ⌝ }
-    ensures { λ r. ⌜ r ≡ takes (opsIn (now (values .entry)) (now (octets .entry)) from count) ⌝ }
+// Whether the operators from one place up to another have one width and no end mark. With no way out of the loop, it goes many at a time.
+fn one_width(octets: &[u8], from: usize, to: usize, code: u8) -> bool
+    requires { ⌜ to ≤ length (now octets) ⌝ }
+    ensures { λ r. ⌜ (r ≡ true → Alike (now (octets .entry)) code from to) ⌝ }
 {
-    if count == 0 {
+    let mut same = true;
+    let mut q = from;
+    while q < to {
+        same = same & (octets[q] / 16 % 4 == code) & (octets[q] < 128);
+        q += 1;
+    }
+    same
+}
+
+// All bits that are set in the values from one place up to another. With no way out of the loop, it goes many at a time.
+fn joined(values: &[u64], from: usize, to: usize) -> u64
+    requires { ⌜ to ≤ length (now values) ⌝ }
+    ensures { λ r. ⌜ Within (now (values .entry)) r from to ⌝ }
+{
+    let mut sum: u64 = 0;
+    let mut q = from;
+    while q < to {
+        sum = sum | values[q];
+        q += 1;
+    }
+    sum
+}
+
+// The quick test, for lists of one width: where it says yes, `ended` does; where it says no, nothing is known.
+fn plainly_ended(values: &[u64], octets: &[u8], from: usize, to: usize) -> bool
+    requires { ⌜ (from < to) × (to ≤ length (now values)) × (to ≤ length (now octets)) ⌝ }
+    ensures { λ r. ⌜ (r ≡ true → ends (opsIn (now (values .entry)) (now (octets .entry)) from (to - from)) ≡ true) ⌝ }
+{
+    let last = octets[to - 1];
+    if last < 128 {
         return false;
     }
-    if octets[from] % 128 / 64 == 1 {
+    let code = last / 16 % 4;
+    if !one_width(octets, from, to - 1, code) {
         return false;
     }
-    let to = from + count;
+    joined(values, from, to) <= MOST[code as usize]
+}
+
+// Whether the values and the end marks of the operators from one place up to another are right.
+fn ended(values: &[u64], octets: &[u8], from: usize, to: usize) -> bool
+    requires { ⌜ (from < to) × (to ≤ length (now values)) × (to ≤ length (now octets)) ⌝ }
+    ensures { λ r. ⌜ r ≡ ends (opsIn (now (values .entry)) (now (octets .entry)) from (to - from)) ⌝ }
+{
     let mut q = from;
     loop {
         let octet = octets[q];
@@ -65,6 +103,24 @@ pub fn taken(values: &[u64], octets: &[u8], from: usize, count: usize) -> bool
             return false;
         }
     }
+}
+
+// Whether the standard writing takes the operators at so many places. No entry point.
+pub fn taken(values: &[u64], octets: &[u8], from: usize, count: usize) -> bool
+    requires { ⌜ (from + count ≤ length (now values)) × (from + count ≤ length (now octets)) ⌝ }
+    ensures { λ r. ⌜ r ≡ takes (opsIn (now (values .entry)) (now (octets .entry)) from count) ⌝ }
+{
+    if count == 0 {
+        return false;
+    }
+    if octets[from] % 128 / 64 == 1 {
+        return false;
+    }
+    let to = from + count;
+    if plainly_ended(values, octets, from, to) {
+        return true;
+    }
+    ended(values, octets, from, to)
 }
 
 // How far a list is written: the place of the next operator and that of the next octet.

@@ -4,6 +4,7 @@
 use crate::lent::{Lent, Place};
 use crate::stored::{Stored, COUNT, WORDS};
 use crate::{archive, peers, refusal, Answer, Form, LONGEST_INPUT};
+use std::collections::BTreeMap;
 use std::process;
 
 /// After so many differences a run ends.
@@ -15,8 +16,8 @@ pub struct Comparison {
     pub differ: u64,
     /// Calls of the proved code: an input is tried with several amounts of room.
     pub calls: u64,
-    /// Inputs by the status of their answer, room aside.
-    answers: [u64; 16],
+    /// Inputs by the status of their answer, room aside, and by what is told where it is 0.
+    answers: BTreeMap<(u64, &'static str), u64>,
     words: Lent<u64>,
     values: Lent<u64>,
     octets: Lent<u8>,
@@ -31,7 +32,7 @@ impl Comparison {
             compared: 0,
             differ: 0,
             calls: 0,
-            answers: [0; 16],
+            answers: BTreeMap::new(),
             words: Lent::new(),
             values: Lent::new(),
             octets: Lent::new(),
@@ -44,12 +45,18 @@ impl Comparison {
     /// How many inputs had each answer since this was last asked.
     pub fn answers(&mut self) -> String {
         let answers = std::mem::take(&mut self.answers);
-        let met = answers.iter().enumerate().filter(|(_, &times)| times != 0);
-        let told = met.map(|(status, times)| match status {
-            0 => format!("accepted {times}"),
+        let told = answers.iter().map(|((status, told), times)| match status {
+            0 => format!("{told} {times}"),
             _ => format!("refusal {status} {times}"),
         });
         told.collect::<Vec<_>>().join(", ")
+    }
+
+    /// Counts an input with its answer, in these words where it is no refusal.
+    pub(crate) fn count(&mut self, answer: Answer, told: &'static str) {
+        self.compared += 1;
+        let told = if answer.is_accepted() { told } else { "" };
+        *self.answers.entry((answer.status, told)).or_insert(0) += 1;
     }
 
     pub fn last_line(&self) -> String {
@@ -60,9 +67,8 @@ impl Comparison {
     /// is refused, room does not matter.
     pub fn reading(&mut self, form: Form, input: &[u8]) {
         let turn = self.compared as usize;
-        self.compared += 1;
         let answer = peers::read(form, input, &mut self.stored);
-        self.answers[answer.status as usize % 16] += 1;
+        self.count(answer, "accepted");
         if !answer.is_accepted() {
             let lent = [
                 room(64, 0, 0),
@@ -146,9 +152,8 @@ impl Comparison {
     /// Compares a writing, with room as in `reading`.
     pub fn writing(&mut self, form: Form, record: &Stored) {
         let turn = self.compared as usize;
-        self.compared += 1;
         let answer = peers::write(form, record, &mut self.written);
-        self.answers[answer.status as usize % 16] += 1;
+        self.count(answer, "accepted");
         if !answer.is_accepted() {
             let room = [0, 3, LONGEST_INPUT + 8, 64][turn % 4];
             self.same_writing(form, record, answer, room);
@@ -196,7 +201,7 @@ impl Comparison {
         false
     }
 
-    fn difference(&mut self, text: &str) {
+    pub(crate) fn difference(&mut self, text: &str) {
         print!("{text}");
         self.differ += 1;
         if self.differ == ENOUGH {
@@ -267,7 +272,7 @@ fn writing_text(answer: Answer, output: &[u8]) -> String {
     format!("accepted ({}, {}), {octets}", answer.first, answer.second)
 }
 
-fn refusal_text(answer: Answer) -> String {
+pub(crate) fn refusal_text(answer: Answer) -> String {
     let Answer {
         status,
         first,
@@ -277,7 +282,7 @@ fn refusal_text(answer: Answer) -> String {
 }
 
 /// The words in groups of four, those of nothing but 0 left out, then the two lists.
-fn record_text(words: &[u64], values: &[u64], octets: &[u8]) -> String {
+pub(crate) fn record_text(words: &[u64], values: &[u64], octets: &[u8]) -> String {
     let group = |(place, group): (usize, &[u64])| {
         let shown = 4 * place == COUNT || group.iter().any(|&word| word != 0);
         let numbers: Vec<String> = group.iter().map(|word| format!("{word:X}")).collect();

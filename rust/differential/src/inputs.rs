@@ -8,7 +8,7 @@ pub type Take<'a> = &'a mut dyn FnMut(&[u8]);
 
 /// Document 01's cases and the RFCs' worked examples (RFC 8955, 4.3; RFC 8956, 3.8), then rules of
 /// several lists, operators and widths, and longer ones.
-const FIXED: [&str; 36] = [
+pub const FIXED: [&str; 36] = [
     "",
     "F0",
     "EF",

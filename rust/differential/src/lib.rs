@@ -2,17 +2,28 @@
 //!
 //! `archive` calls the proved code through its C surface, `peers` has what must come back: by the
 //! original Rust (`oracle`) for the plain reading and writing, by `standard` for the others.
-//! `inputs` and `records` make what both are asked, `compare` asks it and compares. A rule crosses
-//! the surface as words; `stored` knows that form. `src/bin` has the two programs.
+//! `inputs` and `records` make what readings and writings are asked, `compare` asks it and compares;
+//! `edges`, `flows`, `packets` and `tables` make what matching, ranking and choosing are asked,
+//! `decisions` asks it and compares. `wordwise` is a chooser to be timed. A rule crosses the
+//! surface as words; `stored` knows that form, `packets` that of a packet. `requests` has the texts of
+//! stored answers, and `samples` those that are stored. `src/bin` has the programs.
 
 pub mod archive;
 pub mod compare;
+pub mod decisions;
+pub mod edges;
+pub mod flows;
 pub mod inputs;
 pub mod lent;
+pub mod packets;
 pub mod peers;
 pub mod random;
 pub mod records;
+pub mod requests;
+pub mod samples;
 pub mod stored;
+pub mod tables;
+pub mod wordwise;
 
 /// Which reading and writing is meant.
 #[derive(Debug, Clone, Copy, PartialEq, Eq)]
@@ -54,6 +65,9 @@ pub mod refusal {
     pub const NO_ROOM: u64 = 9;
     pub const BAD_RECORD: u64 = 10;
     pub const BAD_FAMILY: u64 = 11;
+    pub const TOO_MANY_RULES: u64 = 12;
+    pub const BAD_PACKET: u64 = 13;
+    pub const MIXED_FAMILY: u64 = 14;
 }
 
 impl Answer {
@@ -85,3 +99,5 @@ pub const LONGEST_BODY: usize = 4095;
 /// The most components and operators that a record may have.
 pub const MOST_COMPONENTS: usize = 13;
 pub const MOST_OPERATORS: usize = 2047;
+/// The most rules that there may be to choose from.
+pub const MOST_RULES: usize = 64;

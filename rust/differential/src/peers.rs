@@ -1,11 +1,13 @@
 //! What a call must answer, when there is room: by the original Rust for the plain form, by the
 //! crate `standard` for the others, and by document 01 where it goes beyond them.
 
-use crate::stored::{original, parts, standard_rule, Stored};
-use crate::{refusal, Answer, Form, LONGEST_INPUT};
+use crate::packets;
+use crate::stored::{flow, original, parts, standard_rule, Stored, WORDS};
+use crate::{refusal, wordwise, Answer, Form, LONGEST_INPUT, MOST_RULES};
 use oracle::error::EncodingError;
 use oracle::flowspec::{encode_flowspec_nlri, parse_flowspec_nlri, FlowSpecError};
-use standard::Refusal;
+use standard::{Flow, Refusal};
+use std::cmp::Ordering;
 
 /// Reads; an accepted rule stands in `stored` afterwards.
 pub fn read(form: Form, input: &[u8], stored: &mut Stored) -> Answer {
@@ -117,11 +119,81 @@ fn standard_write(family: u8, record: &Stored) -> Result<Vec<u8>, Answer> {
     standard::write(family, &rule).map_err(standard_refusal)
 }
 
+/// Whether the rule matches the packet: 1 or 0.
+pub fn matches(rule: &Stored, packet: &[u64]) -> Answer {
+    match standard::matches(&flow_of(rule), &packets::packet(packet)) {
+        Ok(matched) => Answer::accepted(usize::from(matched), 0),
+        Err(refusal) => standard_refusal(refusal),
+    }
+}
+
+/// Which rule precedes: 1 the first, 2 the other, 0 neither.
+pub fn rank(one: &Stored, other: &Stored) -> Answer {
+    order(standard::rank(&flow_of(one), &flow_of(other)))
+}
+
+/// As `rank`, by the ways that are timed: over parsed rules, over stored ones.
+pub fn timed_rank(one: &Stored, other: &Stored) -> [Answer; 2] {
+    [
+        order(standard::direct::rank(&flow_of(one), &flow_of(other))),
+        order(wordwise::rank(one, other)),
+    ]
+}
+
+fn order(order: Result<Ordering, Refusal>) -> Answer {
+    match order {
+        Ok(Ordering::Equal) => Answer::accepted(0, 0),
+        Ok(Ordering::Less) => Answer::accepted(1, 0),
+        Ok(Ordering::Greater) => Answer::accepted(2, 0),
+        Err(refusal) => standard_refusal(refusal),
+    }
+}
+
+/// Which rule of the table decides: 1 and its place, or 0.
+pub fn choose(table: &Stored, packet: &[u64]) -> Answer {
+    place(standard::choose(&flows_of(table), &packets::packet(packet)))
+}
+
+/// As `choose`, by the ways that are timed: over parsed rules, over stored ones.
+pub fn timed_choose(table: &Stored, packet: &[u64]) -> [Answer; 2] {
+    let flows = flows_of(table);
+    [
+        place(standard::direct::choose(&flows, &packets::packet(packet))),
+        place(wordwise::choose(table, packet)),
+    ]
+}
+
+fn place(place: Result<Option<usize>, Refusal>) -> Answer {
+    match place {
+        Ok(Some(place)) => Answer::accepted(1, place),
+        Ok(None) => Answer::accepted(0, 0),
+        Err(refusal) => standard_refusal(refusal),
+    }
+}
+
+fn flow_of(rule: &Stored) -> Flow {
+    flow(&rule.words, &rule.values, &rule.octets)
+}
+
+/// The rules of a table. Words that are left over are a bad one, but no further rule in number.
+fn flows_of(table: &Stored) -> Vec<Flow> {
+    let rules = table.words.chunks_exact(WORDS);
+    let left_over = rules.remainder();
+    let mut flows: Vec<Flow> = rules
+        .map(|words| flow(words, &table.values, &table.octets))
+        .collect();
+    if !left_over.is_empty() && flows.len() <= MOST_RULES {
+        flows.truncate(MOST_RULES - 1);
+        flows.push(flow(left_over, &table.values, &table.octets));
+    }
+    flows
+}
+
 fn bad_record() -> Answer {
     Answer::refused(refusal::BAD_RECORD, 0, 0)
 }
 
-fn standard_refusal(refused: Refusal) -> Answer {
+pub fn standard_refusal(refused: Refusal) -> Answer {
     let (status, first, second) = match refused {
         Refusal::InsufficientData => (refusal::INSUFFICIENT_DATA, 0, 0),
         Refusal::InvalidComponentOrder { previous, found } => (
@@ -134,6 +206,9 @@ fn standard_refusal(refused: Refusal) -> Answer {
         Refusal::ValueTooLarge(length) => (refusal::VALUE_TOO_LARGE, length as u64, 0),
         Refusal::BadRecord => (refusal::BAD_RECORD, 0, 0),
         Refusal::BadFamily(family) => (refusal::BAD_FAMILY, family.into(), 0),
+        Refusal::TooManyRules(count) => (refusal::TOO_MANY_RULES, count as u64, 0),
+        Refusal::BadPacket => (refusal::BAD_PACKET, 0, 0),
+        Refusal::MixedFamily(place) => (refusal::MIXED_FAMILY, place as u64, 0),
     };
     Answer::refused(status, first, second)
 }

@@ -97,7 +97,9 @@ fn prefixes(form: Form, take: Take) {
     }
 }
 
-fn addresses(prefix_form: u64, length: u8, offset: u8) -> [u128; 5] {
+/// Addresses for a prefix: all bits set, those of the prefix alone, some of them, and with a bit beside
+/// it on each side.
+pub fn addresses(prefix_form: u64, length: u8, offset: u8) -> [u128; 5] {
     let size = address_size(prefix_form);
     let bit = |place: u32| {
         if place < size {
@@ -218,7 +220,7 @@ fn long_bodies(form: Form, take: Take) {
 }
 
 /// Adds the list that octets spell.
-fn push_body(record: &mut Stored, body: &[u8]) {
+pub fn push_body(record: &mut Stored, body: &[u8]) {
     let mut rest = &body[1..];
     let mut operators = Vec::new();
     while let [octet, behind @ ..] = rest {
@@ -337,7 +339,7 @@ fn good_record(form: Form, random: &mut Random, record: &mut Stored) {
 }
 
 /// Now and then the rule's operators begin behind some that are another's.
-fn begin(random: &mut Random, record: &mut Stored) {
+pub fn begin(random: &mut Random, record: &mut Stored) {
     if random.once_in(4) {
         for _ in 0..=random.below(5) {
             record.values.push(random.value());
@@ -409,7 +411,7 @@ fn any_record(random: &mut Random, record: &mut Stored) {
 }
 
 /// One or two faults, or changes that may be none.
-fn damage(random: &mut Random, record: &mut Stored) {
+pub fn damage(random: &mut Random, record: &mut Stored) {
     for _ in 0..=random.below(2) {
         let used = 4 * record.count().clamp(1, MOST_COMPONENTS);
         let word = match random.below(8) {

@@ -11,7 +11,7 @@ use ipnet::{IpNet, Ipv4Net, Ipv6Net};
 use oracle::flowspec::{FlowSpecComponent, FlowSpecNlri};
 use oracle::text::{bitmask_record, numeric_record};
 use oracle::NetworkPrefix;
-use standard::{Address, Component, Content, Operator, Rule};
+use standard::{Address, Component, Content, Flow, Operator, Rule};
 use std::net::IpAddr;
 
 pub const WORDS: usize = 64;
@@ -130,9 +130,14 @@ impl Stored {
         self.push_prefix(kind, form, length, offset.unwrap_or(0), address);
     }
 
-    /// Puts a rule that was read by the RFCs in place of what is here.
+    /// Puts a rule of the crate `standard` in place of what is here.
     pub fn put_standard(&mut self, family: u8, rule: &Rule) {
         self.clear(u64::from(family));
+        self.push_rule(rule);
+    }
+
+    /// Adds the components of a rule.
+    pub fn push_rule(&mut self, rule: &Rule) {
         for Component { kind, content } in &rule.components {
             match content {
                 Content::Prefix(prefix) => {
@@ -149,6 +154,24 @@ impl Stored {
                 }
             }
         }
+    }
+}
+
+/// The rule that the first 64 words name with lists, in the form that `standard` takes. Words that
+/// name none stand as a rule of family 0, which whoever asks for a rule's family refuses alike.
+pub fn flow(words: &[u64], values: &[u64], octets: &[u8]) -> Flow {
+    let places = values.len().min(octets.len());
+    match parts(words, places) {
+        Some(parts) => Flow {
+            family: words[FAMILY] as u8,
+            rule: standard_rule(&parts, values, octets),
+        },
+        None => Flow {
+            family: 0,
+            rule: Rule {
+                components: Vec::new(),
+            },
+        },
     }
 }
 

@@ -1,14 +1,23 @@
-//! FlowSpec rules read and written as RFC 8955 (IPv4) and RFC 8956 (IPv6) say.
+//! FlowSpec rules read, written, matched, ranked and chosen from as RFC 8955 (IPv4) and RFC 8956
+//! (IPv6) say.
 //!
-//! The proved standard reading and writing are compared with this. It follows the project's scope
-//! ("document 01") and the RFCs by the sections that are cited;
-//! nothing in it is taken from the proved code or from bgpkit-parser. It is meant to be
-//! read rather than to be fast: address bits are moved one at a time. It allocates what it answers,
-//! so refusal 9, NoRoom, has no counterpart here.
+//! The proved code is compared with this. It follows the project's scope ("document 01") and the
+//! RFCs by the sections that are cited; nothing in it is taken from the proved code or from
+//! bgpkit-parser. It is meant to be read rather than to be fast: address bits are looked at one at a
+//! time, a numeric list is the set of numbers that satisfy it, and the chooser sorts its rules. It
+//! allocates what it answers, so refusal 9, NoRoom, has no counterpart here. `direct` answers as the
+//! chooser does by a way that is fast too, to be timed.
 
+mod choosing;
+pub mod direct;
+mod matching;
+mod ranking;
 mod reading;
 mod writing;
 
+pub use choosing::choose;
+pub use matching::{matches, Packet};
+pub use ranking::{precedes, rank};
 pub use reading::{read, Reading};
 pub use writing::write;
 
@@ -16,6 +25,20 @@ pub use writing::write;
 #[derive(Debug, Clone, PartialEq, Eq)]
 pub struct Rule {
     pub components: Vec<Component>,
+}
+
+/// A rule with the family that it is of, 4 or 6; with any other number it is a BadRecord.
+#[derive(Debug, Clone, PartialEq, Eq)]
+pub struct Flow {
+    pub family: u8,
+    pub rule: Rule,
+}
+
+impl Flow {
+    /// Document 01: a rule that the standard writing in its own family takes.
+    fn is_well_formed(&self) -> bool {
+        write(self.family, &self.rule).is_ok()
+    }
 }
 
 /// A component: its type octet and what follows it (RFC 8955, 4.2).
@@ -53,7 +76,7 @@ pub struct Operator {
     pub value: u64,
 }
 
-/// Why a rule is not read or written, with document 01's numbers.
+/// Why a call is refused, with document 01's numbers.
 #[derive(Debug, Clone, Copy, PartialEq, Eq)]
 pub enum Refusal {
     /// 1
@@ -70,6 +93,12 @@ pub enum Refusal {
     BadRecord,
     /// 11
     BadFamily(u8),
+    /// 12, with the number of rules
+    TooManyRules(usize),
+    /// 13
+    BadPacket,
+    /// 14, with the place of the first rule that is of another family
+    MixedFamily(usize),
 }
 
 #[derive(Debug, Clone, Copy, PartialEq, Eq)]
@@ -107,9 +136,22 @@ fn kind_of(family: Family, kind: u8) -> Option<Kind> {
     }
 }
 
-/// The bits of an operator octet (RFC 8955, 4.2.1.1 and 4.2.1.2).
+/// The bits of an operator octet (RFC 8955, 4.2.1.1 and 4.2.1.2): of every one, of a numeric one, of
+/// a bitmask one.
 const END: u8 = 0x80;
 const AND: u8 = 0x40;
+const LESS: u8 = 0x04;
+const GREATER: u8 = 0x02;
+const EQUAL: u8 = 0x01;
+const NOT: u8 = 0x02;
+const MATCH: u8 = 0x01;
+
+/// The most rules that there may be to choose from, components and operators that a rule may have,
+/// and the longest body that a length field can state.
+const RULES: usize = 64;
+const COMPONENTS: usize = 13;
+const OPERATORS: usize = 2047;
+const BODY: usize = 4095;
 
 /// How many octets the value behind an operator octet has.
 fn width(octet: u8) -> usize {

@@ -2,12 +2,7 @@
 
 use crate::{is_ipv6_range, kind_of, width, without_reserved};
 use crate::{Address, Component, Content, Operator, Prefix, Rule};
-use crate::{Family, Kind, Refusal, AND, END};
-
-/// The most that a record may hold, and the longest body that a length field can state.
-const COMPONENTS: usize = 13;
-const OPERATORS: usize = 2047;
-const BODY: usize = 4095;
+use crate::{Family, Kind, Refusal, AND, BODY, COMPONENTS, END, OPERATORS};
 
 /// Writes a rule: its length and its body. The family is 4 or 6.
 pub fn write(family: u8, rule: &Rule) -> Result<Vec<u8>, Refusal> {
@@ -104,10 +99,16 @@ fn write_component(family: Family, component: &Component, body: &mut Vec<u8>) {
         Content::Prefix(prefix) => write_prefix(prefix, body),
         Content::List(list) => {
             let kind = kind_of(family, component.kind).expect("the type was tested");
-            for operator in list {
-                write_operator(kind, operator, body);
-            }
+            write_list(kind, list, body);
         }
+    }
+}
+
+pub(crate) fn write_list(kind: Kind, list: &[Operator], body: &mut Vec<u8>) {
+    for operator in list {
+        body.push(without_reserved(kind, operator.octet));
+        let octets = operator.value.to_be_bytes();
+        body.extend(&octets[8 - width(operator.octet)..]);
     }
 }
 
@@ -130,10 +131,4 @@ fn write_prefix(prefix: &Prefix, body: &mut Vec<u8>) {
         }
         body.push(octet);
     }
-}
-
-fn write_operator(kind: Kind, operator: &Operator, body: &mut Vec<u8>) {
-    body.push(without_reserved(kind, operator.octet));
-    let octets = operator.value.to_be_bytes();
-    body.extend(&octets[8 - width(operator.octet)..]);
 }

@@ -1,51 +1,9 @@
 //! Document 01's cases and the RFCs' worked examples, as the standard reading and writing have them.
 
-use standard::{read, write, Address, Component, Content, Operator, Prefix, Refusal, Rule};
+mod common;
 
-fn octets(text: &str) -> Vec<u8> {
-    let pairs = text.split_whitespace();
-    let octets = pairs.map(|pair| u8::from_str_radix(pair, 16).expect("hex"));
-    octets.collect()
-}
-
-fn rule(components: &[Component]) -> Rule {
-    Rule {
-        components: components.to_vec(),
-    }
-}
-
-fn ipv4(kind: u8, address: u32, length: u8) -> Component {
-    let prefix = Prefix {
-        address: Address::Ipv4(address),
-        length,
-        offset: None,
-    };
-    Component {
-        kind,
-        content: Content::Prefix(prefix),
-    }
-}
-
-fn ipv6(kind: u8, address: u128, length: u8, offset: u8) -> Component {
-    let prefix = Prefix {
-        address: Address::Ipv6(address),
-        length,
-        offset: Some(offset),
-    };
-    Component {
-        kind,
-        content: Content::Prefix(prefix),
-    }
-}
-
-fn list(kind: u8, pairs: &[(u8, u64)]) -> Component {
-    let operators = pairs.iter();
-    let operators = operators.map(|&(octet, value)| Operator { octet, value });
-    Component {
-        kind,
-        content: Content::List(operators.collect()),
-    }
-}
+use common::{ipv4, ipv6, list, octets, rule};
+use standard::{read, write, Component, Content, Refusal};
 
 /// The input is read as the rule, all of it used, and the rule is written as these octets, which
 /// read as the rule again.

@@ -25,36 +25,36 @@ Inv-loop kind values octets from count out₀ at to p₀ q₀ out p q = Put kind
 abbrev μ-loop : tie.MeasureT-loop
 μ-loop kind values octets from count out₀ at to p₀ q₀ out p q = to - q
 
--- src/lib.rt:148:14
+-- src/lib.rt:204:14
 add-to : tie.Need-add-to Inv-loop μ-loop
 add-to c = search needs
 
--- src/lib.rt:151:5
+-- src/lib.rt:207:5
 loop-holds : tie.Need-loop-holds Inv-loop μ-loop
 loop-holds c = put-first _ _ _ _ _ _ _ (omega arith)
 
--- src/lib.rt:152:13
+-- src/lib.rt:208:13
 put-same-requires : tie.Need-put-same-requires Inv-loop μ-loop
 put-same-requires c κs =
     let l = c .before .before in
     let s = l .before .before .before .before in
     ((omega arith, omega (arith, s .pre .0 .0), omega (arith, s .pre .0 .1)), put-left _ _ _ _ _ _ _ (l .loop .inv) (rw (added (s .args .from) (s .args .count)) (s .pre .1)))
 
--- src/lib.rt:151:5
+-- src/lib.rt:207:5
 loop-less : tie.Need-loop-less Inv-loop μ-loop
 loop-less c = omega (arith, c .before .before .put-same .ensures .1, c .before .before .put-same .ensures .0 .most)
 
--- src/lib.rt:151:5
+-- src/lib.rt:207:5
 loop-again : tie.Need-loop-again Inv-loop μ-loop
 loop-again c =
     let w = c .before .before in
     put-chain _ _ _ _ _ _ _ (w .before .before .before .loop .inv) (w .put-same .ensures .0)
 
--- src/lib.rt:134:1
+-- src/lib.rt:190:1
 same-length : tie.Need-same-length Inv-loop μ-loop
 same-length c = c .before .loop .inv .long
 
--- src/lib.rt:134:1
+-- src/lib.rt:190:1
 returns : tie.Need-returns Inv-loop μ-loop
 returns c =
     let l = c .before in

@@ -1,22 +1,27 @@
 //! Compares the proved code with Rust; `tools/differential` builds and runs this and says how.
 
 use differential::compare::Comparison;
+use differential::decisions::{self, Ways};
 use differential::random::Random;
 use differential::stored::Stored;
-use differential::{inputs, records, Form};
+use differential::{edges, inputs, records, Form};
 use std::process::ExitCode;
 use std::time::Instant;
 
-const USAGE: &str = "usage: tools/differential [--cases N] [--seed S] [--part plain|standard|all]";
+const USAGE: &str =
+    "usage: tools/differential [--cases N] [--seed S] [--part plain|standard|choosing|all]";
 
 /// A writing is as likely wrong as a reading, but has fewer turns to take.
 const READINGS_TO_A_WRITING: u64 = 5;
+/// A choice is among many rules.
+const MATCHES_TO_A_CHOICE: u64 = 5;
 
 struct Wanted {
     cases: u64,
     seed: u64,
     plain: bool,
     standard: bool,
+    choosing: bool,
 }
 
 fn main() -> ExitCode {
@@ -37,6 +42,9 @@ fn main() -> ExitCode {
         part(&mut comparison, "standard", &forms, &wanted);
         other_families(&mut comparison);
     }
+    if wanted.choosing {
+        choosing(&mut comparison, &wanted);
+    }
     println!("the proved code was called {} times", comparison.calls);
     println!("{}", comparison.last_line());
     ExitCode::from(u8::from(comparison.differ != 0))
@@ -48,14 +56,17 @@ fn wanted(arguments: &[String]) -> Option<Wanted> {
         seed: 1,
         plain: true,
         standard: true,
+        choosing: true,
     };
     for pair in arguments.chunks(2) {
         match [pair.first()?.as_str(), pair.get(1)?.as_str()] {
             ["--cases", number] => wanted.cases = number.parse().ok()?,
             ["--seed", number] => wanted.seed = number.parse().ok()?,
-            ["--part", part @ ("plain" | "standard" | "all")] => {
-                wanted.plain = part != "standard";
-                wanted.standard = part != "plain";
+            ["--part", part @ ("plain" | "standard" | "choosing" | "all")] => {
+                let is = |name| [name, "all"].contains(&part);
+                wanted.plain = is("plain");
+                wanted.standard = is("standard");
+                wanted.choosing = is("choosing");
             }
             _ => return None,
         }
@@ -107,6 +118,26 @@ fn other_families(comparison: &mut Comparison) {
     section.said("of other families");
 }
 
+/// Matches, rankings and choices in both families: those made by rule, then so many random ones.
+fn choosing(comparison: &mut Comparison, wanted: &Wanted) {
+    let mut random = Random::new(wanted.seed);
+    let mut section = Section::new(comparison, "choosing", "matches");
+    edges::matches(&mut |rule, packet| section.comparison.matching(rule, packet));
+    section.said("made by rule");
+    section.random(wanted.cases, &mut random, decisions::random_match);
+
+    let mut section = Section::new(comparison, "choosing", "rankings");
+    edges::rankings(&mut |one, other| section.comparison.ranking(one, other));
+    section.said("made by rule");
+    section.random(wanted.cases, &mut random, decisions::random_ranking);
+
+    let mut section = Section::new(comparison, "choosing", "choices");
+    edges::choices(&mut |table, packet| section.comparison.choosing(table, packet));
+    section.said("made by rule");
+    let choices = wanted.cases / MATCHES_TO_A_CHOICE;
+    section.random(choices, &mut random, decisions::random_choice);
+}
+
 /// A part of the run that is told of in lines of its own.
 struct Section<'a> {
     comparison: &'a mut Comparison,
@@ -123,6 +154,25 @@ impl<'a> Section<'a> {
             began: Instant::now(),
             comparison,
         }
+    }
+
+    /// So many random cases, and how they were made.
+    fn random(
+        &mut self,
+        cases: u64,
+        random: &mut Random,
+        compare: impl Fn(&mut Random, &mut Comparison, &mut Ways),
+    ) {
+        let mut ways = Ways::new();
+        for _ in 0..cases {
+            compare(random, self.comparison, &mut ways);
+        }
+        self.said("random");
+        let ways: Vec<String> = ways
+            .iter()
+            .map(|(way, times)| format!("{way} {times}"))
+            .collect();
+        println!("    of these: {}", ways.join(", "));
     }
 
     /// Prints what was compared since the last time.
