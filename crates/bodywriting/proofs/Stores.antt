@@ -1,8 +1,8 @@
 -- What is stored of a prefix and of a piece. Assumes nothing.
-use Prim.Native.Nat.{ℕ, zero, suc, _+_, _-_, _*_, _/_, _^_, _≤_, _<_}
+use Prim.Native.Nat.{ℕ, zero, suc, _+_, _-_, _*_, _/_, _^_, _≤_}
 use mathlib.Core.Path.{_≡_, refl, sym, ap, ap₂, _∙_}
-use mathlib.Core.Bool.{Bool, true, false, _&&_, false≢true}
-use mathlib.Core.List.{List, [], _∷_, _++_}
+use mathlib.Core.Bool.{true, false, false≢true}
+use mathlib.Core.List.{List, _∷_, _++_}
 use native.Mathlib.Omega.{arith}
 use native.Mathlib.Numerals.{add-one}
 use borrow.Author.Tests.{leb-true}
@@ -10,6 +10,7 @@ use lib.Dec.{leb}
 use lib.ListN.{length, set}
 use lib.Pow.{shr-shr}
 use lib.Seq.{sets, length-sets}
+use Rattle.ground.proofs.Cases.{both}
 use Rattle.ground.proofs.Overlays.{sets-append}
 use Rattle.octets.specs.Spell.{spelled}
 use Rattle.octets.proofs.Spells.{spelled-parts, length-spelled}
@@ -27,7 +28,6 @@ use Rattle.pieces.specs.declared.Piece.{Piece}
 use Rattle.pieces.specs.declared.Piece.the-variants.{Prefix, Operators, NoRecord}
 use Rattle.measuring.specs.Bodies.{Lent, opsOf, prefixOctets, pieceOctets}
 use Rattle.measuring.specs.Grounds.{insideOf, prefixTaken, listTaken, pieceTaken}
-use Rattle.measuring.proofs.Tests.{both}
 use Rattle.measuring.proofs.Weights.{length-operators}
 
 -- the arms of `put_high`

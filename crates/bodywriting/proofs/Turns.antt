@@ -1,11 +1,12 @@
 -- The turns of the walk that writes: with what is left of the words stored at p, the output is as it shall be. Assumes nothing.
-use Prim.Native.Nat.{ℕ, zero, suc, _+_, _-_, _*_, _≤_, _<_}
+use Prim.Native.Nat.{ℕ, suc, _+_, _-_, _*_, _≤_, _<_}
 use mathlib.Core.Path.{_≡_, refl, sym, ap, _∙_}
-use mathlib.Core.Bool.{Bool, true, false, _&&_}
+use mathlib.Core.Bool.{true, _&&_}
 use mathlib.Core.List.{List, [], _∷_, _++_}
 use native.Mathlib.Omega.{arith}
 use lib.ListN.{length}
 use lib.Seq.{sets, length-sets}
+use Rattle.ground.proofs.Cases.{both}
 use Rattle.ground.proofs.Overlays.{sets-append}
 use Rattle.choices.specs.declared.Reading.{Reading}
 use Rattle.stored.specs.Stored.{componentsFrom, partAt, inRule, partsFrom}
@@ -13,7 +14,6 @@ use Rattle.pieces.specs.declared.Piece.{Piece}
 use Rattle.pieces.specs.Pieces.{pieceIn}
 use Rattle.measuring.specs.Bodies.{Lent, pieceOctets, bodyOctets}
 use Rattle.measuring.specs.Grounds.{pieceTaken, allTaken, piecesFrom}
-use Rattle.measuring.proofs.Tests.{both}
 use Rattle.measuring.proofs.Walks.{piece-here, pieces-more, parts-more, body-more}
 
 -- the octets of what is left of n places after i

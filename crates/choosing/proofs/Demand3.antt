@@ -13,7 +13,7 @@
 -- `chosenIn` is what the contract of `choosing::choose` cites, and `Decides` is in that contract too. Assumes nothing.
 use Prim.Native.Nat.{ℕ, zero, suc, _≤_, _<_}
 use mathlib.Core.Path.{_≡_, refl, sym, ap, _∙_, subst}
-use mathlib.Core.Bool.{Bool, true, false, not, _&&_, true≢false}
+use mathlib.Core.Bool.{Bool, true, false, _&&_, true≢false}
 use mathlib.Core.Logic.{⊎-elim}
 use mathlib.Core.List.{List, [], _∷_}
 use native.Mathlib.Omega.{arith}
@@ -21,16 +21,14 @@ use borrow.Author.Tests.{lt-ltb, le-ltb, ltb-false}
 use lib.Dec.{ltb}
 use Rattle.ground.specs.Picks.{pick}
 use Rattle.ground.specs.Answers.{Answer, accepts, refuses}
-use Rattle.ground.proofs.Cases.{by-test, lt-or-le}
+use Rattle.ground.proofs.Cases.{by-test, lt-or-le, both}
 use Rattle.packets.specs.declared.Packet.{Packet}
 use Rattle.packets.specs.Packets.{packetOk}
-use Rattle.ranking.specs.declared.Order.{Order}
-use Rattle.ranking.specs.declared.Order.the-variants.{Precedes, Equal, Follows}
 use Rattle.ranking.proofs.Orders.{Ordered, by-key}
 use Rattle.ranking.proofs.Laws.{Ruled, ranked, rules-ordered}
-use Rattle.choosing.specs.Choosing.{Table, rulesIn, wholeRules, ruleAt, formedAt, familyIs, matchesAt, rankAt, Choice, place, none, Named, Decides, Decided, allBelow, orElse, firstFailing, better, bestBelow, unmixed, chosenIn}
-use Rattle.choosing.proofs.Steps.{both, all-below, all-not}
-use Rattle.choosing.proofs.Best.{Best, Answers, betterThan, passed-over, taken-in, only-one}
+use Rattle.choosing.specs.Choosing.{Table, rulesIn, wholeRules, ruleAt, formedAt, familyIs, matchesAt, rankAt, Choice, place, none, Decides, Decided, allBelow, orElse, firstFailing, better, bestBelow, unmixed, chosenIn}
+use Rattle.choosing.proofs.Steps.{all-below, all-not}
+use Rattle.choosing.proofs.Best.{Answers, betterThan, passed-over, taken-in, only-one}
 
 -- the rules of a table are in an order
 abbrev held : Table → ℕ → Ruled

@@ -1,16 +1,14 @@
 -- One step of each pass, and where a pass ends: a choice below a number is told as a place, or the number of rules. Assumes nothing.
-use Prim.Native.Nat.{ℕ, zero, suc, _+_, _*_, _≤_, _<_}
+use Prim.Native.Nat.{ℕ, zero, suc, _+_, _≤_, _<_}
 use mathlib.Core.Path.{_≡_, refl, sym, ap, _∙_, subst}
-use mathlib.Core.Bool.{Bool, true, false, _&&_}
+use mathlib.Core.Bool.{Bool, true, false}
 use mathlib.Core.Logic.{⊎-elim}
 use native.Mathlib.Omega.{arith}
 use borrow.Author.Tests.{lt-ltb, le-ltb, le-leb, lt-leb}
-use lib.Dec.{ltb, leb}
 use Rattle.ground.specs.Picks.{pick}
-use Rattle.ground.proofs.Cases.{by-test, lt-or-le}
+use Rattle.ground.proofs.Cases.{by-test, lt-or-le, both}
 use Rattle.packets.specs.declared.Packet.{Packet}
 use Rattle.ranking.specs.Ranks.{isBefore}
-use Rattle.choosing.specs.declared.Tested.{Tested}
 use Rattle.choosing.specs.declared.Tested.the-variants.{Formed, BadRecord}
 use Rattle.choosing.specs.Choosing.{Table, formedAt, familyIs, matchesAt, rankAt, Choice, place, none, allBelow, orElse, firstFailing, better, bestBelow}
 use Rattle.choosing.specs.Passes.{placeOr, firstOf, testedBelow, betterOf}
@@ -46,10 +44,6 @@ unfolding firstFailing
 failing-step f n i l = or-step n i l (firstFailing f i) (f i) (failing-below f i)
 
 -- all below a number
-pub both : (a b : Bool) → (a && b) ≡ true → (a ≡ true) × (b ≡ true)
-both true b e = (refl, e)
-both false b e = let z : _≡_ {A = ℕ} 0 1 = cc in absurd (omega arith)
-
 pub all-below : (f : ℕ → Bool) (n : ℕ) → allBelow f n ≡ true → (i : ℕ) → i < n → f i ≡ true
 unfolding allBelow
 all-below f zero e i l = absurd (omega arith)

@@ -8,6 +8,7 @@ use native.Mathlib.Omega.{arith}
 use borrow.Author.Tests.{lt-ltb, le-ltb}
 use lib.ListN.{length, getD, set, take, replicate, length-map, length-replicate}
 use lib.Seq.{sets, length-sets, length-take-le}
+use Rattle.ground.proofs.Answers.{never}
 use Rattle.ground.specs.Answers.{Answer, accepts, refuses}
 use Rattle.ground.proofs.Cases.{lt-or-le}
 use Rattle.refusals.specs.declared.Fault.{Fault}
@@ -25,7 +26,6 @@ use Rattle.pieces.specs.declared.Piece.the-variants.{Prefix, Operators, NoRecor
 use Rattle.pieces.specs.Pieces.{pieceOf}
 use Rattle.reading.specs.declared.ReadInto.{ReadInto}
 use Rattle.reading.specs.Readings.{ReadRule, readAt, readInto, toldInto, takenOf, wordsOf, operatorsOf, nlriOf}
-use Rattle.walk.proofs.Heres.{never}
 use Rattle.reading.proofs.Rules.{read-rule, rule-back}
 use Rattle.listing.specs.declared.Listed.{Listed}
 use Rattle.listing.specs.declared.Listed.the-variants.{Octets as Has, Refused}

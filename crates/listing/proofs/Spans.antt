@@ -7,6 +7,7 @@ use mathlib.Core.Logic.{⊎-elim}
 use native.Mathlib.Omega.{arith}
 use lib.Dec.{ltb, leb, eqb}
 use lib.ListN.{length, getD, length-append, length-take, length-drop}
+use Rattle.ground.proofs.Answers.{never}
 use Rattle.ground.specs.Answers.{Answer, accepts, refuses}
 use Rattle.ground.proofs.Cases.{by-test, lt-or-le}
 use Rattle.octets.specs.declared.Length.{Length}
@@ -29,7 +30,7 @@ use Rattle.pieces.specs.Pieces.{pieceOf}
 use Rattle.pieces.proofs.Fronts.{list-piece}
 use Rattle.walk.specs.Walks.{Piece, prefixAt, prefixPiece, listPiece, typedAt, Body}
 use Rattle.walk.proofs.Founds.{typed-prefix, typed-list, recorded-counts}
-use Rattle.walk.proofs.Heres.{never, prefix-next, here}
+use Rattle.walk.proofs.Heres.{prefix-next, here}
 use Rattle.walk.proofs.Chains.{Chain, none, more, walk-chained}
 use Rattle.reading.specs.Readings.{ReadRule, readAt, part}
 use Rattle.reading.proofs.Rules.{read-walked}

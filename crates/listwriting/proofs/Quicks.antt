@@ -1,15 +1,15 @@
 -- The quick test of a list: one octet and one value more, and the list is right where it says so. Assumes nothing.
 use Prim.Native.Nat.{ℕ, zero, suc, _+_, _-_, _*_, _^_, _≤_, _<_}
-use mathlib.Core.Path.{_≡_, refl, sym, _∙_, ap}
+use mathlib.Core.Path.{_≡_, sym, _∙_, ap}
 use mathlib.Core.List.{List}
-use mathlib.Core.Bool.{Bool, true, false, _&&_, false≢true}
+use mathlib.Core.Bool.{Bool, true, _&&_}
 use mathlib.Core.Logic.{⊎-elim}
 use native.Mathlib.Omega.{arith}
 use borrow.Author.Tests.{le-leb, eqb-true, ltb-true}
 use lib.Bits.{bitOr, bitAnd, or-add-and, and-le-l, and-le-r}
-use lib.Dec.{eqb, leb, ltb}
+use lib.Dec.{eqb, ltb}
 use lib.ListN.{getD}
-use Rattle.ground.proofs.Cases.{lt-or-le}
+use Rattle.ground.proofs.Cases.{lt-or-le, both}
 use Rattle.octets.specs.Widths.{codeIn, widths}
 use Rattle.listwriting.specs.Lists.{fitsIn}
 use Rattle.listwriting.specs.Runs.{Alike, Within}
@@ -18,10 +18,6 @@ use Rattle.listwriting.proofs.Marks.{rest, most, fits-by, turn-last, tu
 -- the place after those that have it has it too
 one-more : {P : ℕ → Type 0} (from q : ℕ) → ((i : ℕ) → from ≤ i → i < q → P i) → P q → (i : ℕ) → from ≤ i → i < q + 1 → P i
 one-more {P} from q h p i f t = ⊎-elim (h i f) (λ k. let e : q ≡ i = omega arith in rw e at p) (lt-or-le i q)
-
-both : (a b : Bool) → (a && b) ≡ true → (a ≡ true) × (b ≡ true)
-both true b e = (refl, e)
-both false b e = absurd (false≢true e)
 
 pub alike-more : (os : List ℕ) (code from q : ℕ) (same : Bool) → (same ≡ true → Alike os code from q)
     → ((same && eqb (codeIn (getD os q 0)) code) && ltb (getD os q 0) 128) ≡ true → Alike os code from (q + 1)

@@ -1,16 +1,14 @@
 -- Places within the lent lists. Assumes nothing.
-use Prim.Native.Nat.{ℕ, _+_, _-_, _≤_, _<_}
-use mathlib.Core.Path.{_≡_, refl, sym, _∙_}
-use mathlib.Core.Bool.{Bool, true, false, _&&_, _||_}
-use mathlib.Core.List.{List}
+use Prim.Native.Nat.{ℕ, _+_, _-_, _≤_}
+use mathlib.Core.Path.{_≡_, sym, _∙_}
+use mathlib.Core.Bool.{true, _&&_}
 use native.Mathlib.Omega.{arith}
 use borrow.Author.Tests.{eq-eqb, ne-eqb, le-leb, lt-leb, leb-true, leb-false}
-use lib.Dec.{eqb, leb}
+use lib.Dec.{leb}
 use lib.ListN.{length}
-use Rattle.ground.proofs.Cases.{by-test}
+use Rattle.ground.proofs.Cases.{by-test, both}
 use Rattle.measuring.specs.Bodies.{Lent}
 use Rattle.measuring.specs.Grounds.{insideOf}
-use Rattle.measuring.proofs.Tests.{both}
 
 -- the last test, where nothing was added
 pub no-sum : (f s n z : ℕ) → n ≤ z → s ≤ z - n → leb f (z - n - s) ≡ leb (f + s + n) z

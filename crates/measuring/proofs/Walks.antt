@@ -1,14 +1,14 @@
 -- The turns of the walk that measures: a piece is tested and counted, and what is left of the words is the rest of the body. Assumes nothing.
-use Prim.Native.Nat.{ℕ, zero, suc, _+_, _-_, _*_, _≤_, _<_}
+use Prim.Native.Nat.{ℕ, suc, _+_, _-_, _*_, _≤_, _<_}
 use mathlib.Core.Path.{_≡_, refl, sym, ap, ap₂, _∙_}
 use mathlib.Core.Bool.{Bool, true, false, not, _&&_, false≢true}
-use mathlib.Core.List.{List, [], _∷_, _++_, map}
+use mathlib.Core.List.{List, [], _∷_}
 use native.Mathlib.Omega.{arith}
 use borrow.Author.Tests.{lt-leb, le-leb, leb-true, leb-false}
 use lib.Dec.{eqb, leb}
 use lib.ListN.{length, length-append}
 use Rattle.ground.specs.Picks.{pick}
-use Rattle.ground.proofs.Cases.{by-test}
+use Rattle.ground.proofs.Cases.{by-test, both}
 use Rattle.choices.specs.declared.Reading.{Reading}
 use Rattle.rules.specs.declared.FlowSpecComponent.{FlowSpecComponent}
 use Rattle.rules.specs.declared.FlowSpecComponent.the-variants.{Nothing, DestinationPrefix, SourcePrefix, IpProtocol, Port, DestinationPort, SourcePort, IcmpType, IcmpCode, TcpFlags, PacketLength, Dscp, Fragment, FlowLabel}
@@ -17,15 +17,15 @@ use Rattle.stored.specs.declared.Part.{Part}
 use Rattle.stored.specs.declared.Part.the-variants.{Is, NoRecord as NoPart}
 use Rattle.stored.specs.Stored.{componentOf, quadAt, isComponent, partOf, partAt, inRule, componentsFrom, partsFrom}
 use Rattle.pieces.specs.declared.Piece.{Piece}
-use Rattle.pieces.specs.declared.Piece.the-variants.{Prefix, Operators, NoRecord}
+use Rattle.pieces.specs.declared.Piece.the-variants.{NoRecord}
 use Rattle.pieces.specs.Pieces.{pieceOf, pieceIn}
 use Rattle.measuring.specs.declared.Weighed.{Weighed}
 use Rattle.measuring.specs.declared.Weighed.the-variants.{Takes, BadRecord as BadWeight}
 use Rattle.measuring.specs.declared.Measured.{Measured}
 use Rattle.measuring.specs.declared.Measured.the-variants.{Body, BadRecord}
 use Rattle.measuring.specs.Bodies.{Lent, pieceOctets, bodyOctets}
-use Rattle.measuring.specs.Grounds.{operatorsIn, allOperators, pieceTaken, allTaken, risesIn, kindIn, inOrder, takenAfter, bodyTaken, fitsAfter, weighedOf, piecesFrom, measured, measuredAt}
-use Rattle.measuring.proofs.Tests.{both, and-false, leb-rest}
+use Rattle.measuring.specs.Grounds.{operatorsIn, allOperators, pieceTaken, allTaken, risesIn, kindIn, inOrder, takenAfter, fitsAfter, weighedOf, piecesFrom, measured, measuredAt}
+use Rattle.measuring.proofs.Tests.{and-false, leb-rest}
 use Rattle.measuring.proofs.Weights.{weighed-takes, weighed-none, piece-most}
 
 -- one piece, and the others after it

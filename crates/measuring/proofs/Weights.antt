@@ -1,33 +1,29 @@
 -- What a piece adds: how many octets it can be, and the ways that its tests go. Assumes nothing.
-use Prim.Native.Nat.{ℕ, zero, suc, _+_, _-_, _*_, _/_, _≤_, _<_}
+use Prim.Native.Nat.{ℕ, suc, _+_, _-_, _*_, _≤_, _<_}
 use mathlib.Core.Path.{_≡_, refl, sym, ap, _∙_}
 use mathlib.Core.Bool.{Bool, true, false, _&&_, _||_, false≢true}
-use mathlib.Core.List.{List, [], _∷_}
 use native.Mathlib.Omega.{arith}
 use borrow.Author.Tests.{le-leb, lt-leb, leb-true, eqb-true, ltb-true}
 use lib.Dec.{eqb, leb, ltb}
 use lib.ListN.{length}
-use Rattle.ground.specs.Picks.{pick}
-use Rattle.ground.proofs.Cases.{by-test}
+use Rattle.ground.proofs.Cases.{by-test, both}
 use Rattle.choices.specs.declared.Reading.{Reading}
 use Rattle.choices.specs.declared.Reading.the-variants.{Plain, Ipv4, Ipv6}
 use Rattle.choices.specs.Choices.{kindOf}
-use Rattle.choices.specs.Operators.{listOctets}
 use Rattle.rules.specs.declared.NetworkPrefix.{NetworkPrefix}
 use Rattle.rules.specs.declared.NetworkPrefix.the-variants.{Ipv4 as V4, Ipv6 as V6, Ipv4Offset, Ipv6Offset}
-use Rattle.prefixes.specs.Prefixes.{octetsOf, offsetFits}
-use Rattle.prefixes.specs.Forms.{inRange, validIn}
-use Rattle.prefixwriting.specs.Writings.{plainOctets, standardOctets, octetsInPlain, octetsInStandard, standardRange}
+use Rattle.prefixes.specs.Prefixes.{offsetFits}
+use Rattle.prefixes.specs.Forms.{inRange}
+use Rattle.prefixwriting.specs.Writings.{octetsInPlain, octetsInStandard, standardRange}
 use Rattle.prefixwriting.proofs.Puts.{length-plain, length-standard, valid-ranged}
 use Rattle.listwriting.specs.Lists.{sizeIn}
 use Rattle.listwriting.proofs.Sizes.{length-list, size-most}
 use Rattle.pieces.specs.declared.Piece.{Piece}
 use Rattle.pieces.specs.declared.Piece.the-variants.{Prefix, Operators, NoRecord}
-use Rattle.measuring.specs.declared.Weighed.{Weighed}
 use Rattle.measuring.specs.declared.Weighed.the-variants.{Takes, BadRecord}
 use Rattle.measuring.specs.Bodies.{Lent, opsOf, prefixOctets, pieceOctets}
 use Rattle.measuring.specs.Grounds.{operatorsIn, insideOf, prefixTaken, listTaken, pieceTaken, risesIn, kindIn, fitsAfter, weighed, weighedOf}
-use Rattle.measuring.proofs.Tests.{both, and-false}
+use Rattle.measuring.proofs.Tests.{and-false}
 
 -- a prefix that is taken has at most 18 octets
 plain-most : (p : NetworkPrefix) → inRange p ≡ true → octetsInPlain p ≤ 18

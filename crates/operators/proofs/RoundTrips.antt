@@ -1,15 +1,15 @@
 -- Octet to record and back is the identity on every octet that is accepted, and record to octet and back on every record with a proper
 -- width. An octet is 128 e + 64 a + 16 c + low: what the two kinds share of that is shown once, by its digits. Assumes nothing.
-use Prim.Native.Nat.{ℕ, zero, suc, _+_, _*_, _/_, _%_, _≤_, _<_}
-use mathlib.Core.Path.{_≡_, refl, sym, _∙_, ap, ap₂, subst}
-use mathlib.Core.List.{List, [], _∷_}
+use Prim.Native.Nat.{ℕ, zero, suc, _+_, _*_, _/_, _%_, _<_}
+use mathlib.Core.Path.{_≡_, refl, sym, _∙_, ap, subst}
 use mathlib.Core.Bool.{Bool, true, false, _||_}
 use native.Mathlib.Nat.{div-one, div-div-eq-div-mul}
 use native.Mathlib.Omega.{arith}
 use lib.Dec.{T, eqb, eqb→eq}
 use lib.ListN.{getD}
-use borrow.Author.Tests.{eqb-true, eqb-false, eq-eqb, ne-eqb}
-use Rattle.ground.specs.Answers.{Answer, accepts, refuses}
+use borrow.Author.Tests.{eqb-true, eqb-false}
+use Rattle.ground.proofs.Answers.{never}
+use Rattle.ground.specs.Answers.{accepts}
 use Rattle.ground.proofs.Cases.{by-test}
 use Rattle.ground.proofs.Tables.{both, both-left, both-right, at}
 use Rattle.octets.specs.Widths.{widths, widthOf, codeIn}
@@ -156,9 +156,6 @@ bitmask-made : (x v : ℕ) → x < 256 → isSet x 8 ≡ false → isSet x 4 ≡
 bitmask-made x v h t s =
     let l = low-four x (unset x 8 t) (unset x 4 s) in
     parts-make x _ h (rw (weight-bit x 2 2, weight-bit x 1 1, last-bit x) (omega (arith, l)))
-
-never : {A B : Type 0} {n : ℕ} {ns : List ℕ} {y : A} → refuses n ns ≡ accepts y → B
-never e = let z : _≡_ {A = ℕ} 0 1 = cc in absurd (omega arith)
 
 same : {A : Type 0} {x y : A} → accepts x ≡ accepts y → x ≡ y
 same e = cc

@@ -12,7 +12,8 @@ use lib.Dec.{ltb, leb, eqb}
 use lib.ListN.{length, getD, take, drop, length-drop}
 use lib.Pow.{shl-shr, pow-pos}
 use lib.Seq.{getD-drop, length-take-le}
-use Rattle.ground.specs.Answers.{accepts, refuses}
+use Rattle.ground.proofs.Answers.{never}
+use Rattle.ground.specs.Answers.{accepts}
 use Rattle.ground.proofs.Cases.{by-test, lt-or-le}
 use Rattle.octets.specs.Addresses.{firstBits}
 use Rattle.octets.specs.Spell.{spell, valueOf}
@@ -49,9 +50,6 @@ value-lt s from k h l =
     let e : 0 + length (take k (drop from s)) ≡ k = omega (arith, length-take-le k (drop from s) m) in
     let d : Octets (drop from s) = λ i. rw (getD-drop) (h (from + i)) in
     subst (λ (j : ℕ). valueOf (take k (drop from s)) < 2 ^ (8 * j)) e (spell-lt (take k (drop from s)) 0 0 (pow-pos 0) (octets-take k (drop from s) d))
-
-never : {A : Type 0} {n : ℕ} {c : List ℕ} {r : PrefixAt} → refuses n c ≡ accepts r → A
-never e = let z : _≡_ {A = ℕ} 0 1 = cc in absurd (omega arith)
 
 -- the octets were there, and they made the prefix
 octets-taken : (s : List ℕ) (from k : ℕ) (make : ℕ → NetworkPrefix) (r : PrefixAt) → from ≤ length s → octetsAt s from k make ≡ accepts r

@@ -8,6 +8,7 @@ use native.Mathlib.Omega.{arith}
 use borrow.Author.Tests.{le-leb, lt-leb, lt-ltb, le-ltb, eqb-true, ltb-true}
 use lib.Dec.{ltb, eqb}
 use lib.ListN.{length, getD, take, drop}
+use Rattle.ground.proofs.Cases.{both}
 use Rattle.ground.specs.Answers.{Answer, accepts, refuses}
 use Rattle.octets.specs.Spell.{valueOf}
 use Rattle.rules.specs.declared.NetworkPrefix.{NetworkPrefix}
@@ -92,10 +93,6 @@ module _ (s : List ℕ) (at : ℕ) where
       ipv6-octets e = let f : at + 1 + 1 ≡ at + 2 = omega arith in rw f (simp (lt-leb _ _ h, lt-leb _ _ k, e))
 
 -- what a length and an offset that fit are
-pub both : (a b : Bool) → (a && b) ≡ true → (a ≡ true) × (b ≡ true)
-both true b e = (refl, e)
-both false b e = let z : _≡_ {A = ℕ} 0 1 = cc in absurd (omega arith)
-
 either : (a b : Bool) → (a || b) ≡ true → (a ≡ true) ⊎ (b ≡ true)
 either true b e = inl refl
 either false b e = inr e

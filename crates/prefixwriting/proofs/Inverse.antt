@@ -11,6 +11,7 @@ use lib.Dec.{eqb, leb}
 use lib.ListN.{length, getD, take, drop, length-append}
 use lib.Pow.{pow-pos, shr-shr, shl-shr, shr-lt, shl-lt, high, low}
 use lib.Seq.{getD-append-seam, getD-append-add, drop-append-add, take-at}
+use Rattle.ground.proofs.Cases.{both}
 use Rattle.ground.specs.Answers.{accepts}
 use Rattle.ground.proofs.Powers.{up-down}
 use Rattle.wide.specs.Numbers.{wide}
@@ -21,7 +22,7 @@ use Rattle.rules.specs.declared.NetworkPrefix.{NetworkPrefix}
 use Rattle.rules.specs.declared.NetworkPrefix.the-variants.{Ipv4, Ipv6, Ipv4Offset, Ipv6Offset}
 use Rattle.prefixes.specs.Prefixes.{wholePrefix, octetsOf, frontAddress, offsetAddress, ipv4Prefix, ipv6Offset, ipv6Prefix, octetsAt, ipv4At, ipv6At, offsetFits}
 use Rattle.prefixes.specs.Forms.{clean, validIn}
-use Rattle.prefixes.proofs.Readings.{both, fits-le, ipv4-octets, ipv6-octets}
+use Rattle.prefixes.proofs.Readings.{fits-le, ipv4-octets, ipv6-octets}
 use Rattle.prefixwriting.specs.Writings.{standardOctets}
 use Rattle.prefixwriting.proofs.Puts.{length-standard}
 

@@ -10,6 +10,7 @@ use lib.Dec.{eqb, leb}
 use lib.ListN.{length, set, length-set}
 use lib.Pow.{split}
 use lib.Seq.{sets, length-sets}
+use Rattle.ground.proofs.Cases.{both}
 use Rattle.wide.specs.declared.Wide.{Wide}
 use Rattle.wide.specs.Numbers.{num, wide, wideOf}
 use Rattle.wide.proofs.Halves.{num-wideOf}
@@ -19,7 +20,7 @@ use Rattle.rules.specs.declared.NetworkPrefix.{NetworkPrefix}
 use Rattle.rules.specs.declared.NetworkPrefix.the-variants.{Ipv4, Ipv6, Ipv4Offset, Ipv6Offset}
 use Rattle.prefixes.specs.Prefixes.{octetsOf, offsetFits}
 use Rattle.prefixes.specs.Forms.{inRange, clean, validIn}
-use Rattle.prefixes.proofs.Readings.{both, fits-le}
+use Rattle.prefixes.proofs.Readings.{fits-le}
 use Rattle.prefixwriting.specs.Writings.{frontOctets, plainOctets, octetsInPlain, standardOctets, octetsInStandard, standardRange}
 
 -- as many octets as are counted

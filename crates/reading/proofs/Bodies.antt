@@ -10,6 +10,7 @@ use native.Mathlib.Omega.{arith}
 use borrow.Author.Tests.{ltb-false, leb-true, le-leb, lt-leb}
 use lib.Dec.{ltb, leb, eqb}
 use lib.ListN.{length, getD, take, drop}
+use Rattle.ground.proofs.Answers.{never}
 use Rattle.ground.specs.Answers.{Answer, accepts, refuses}
 use Rattle.ground.proofs.Cases.{by-test, lt-or-le}
 use Rattle.octets.specs.Spell.{valueOf}
@@ -32,7 +33,7 @@ use Rattle.choices.specs.Choices.{kindOf}
 use Rattle.choices.specs.Operators.{Op}
 use Rattle.walk.specs.Walks.{prefixAt, Piece, prefixPiece, listPiece, componentAt, Body, joined, turn, walkFrom, walkAt}
 use Rattle.walk.proofs.Founds.{typed-prefix, typed-list}
-use Rattle.walk.proofs.Heres.{never, Here, here}
+use Rattle.walk.proofs.Heres.{Here, here}
 
 -- the prefix of each reading fits its widths
 octets-made : (s : List ℕ) (from k : ℕ) (make : ℕ → NetworkPrefix) (q : PrefixAt) → from ≤ length s → octetsAt s from k make ≡ accepts q

@@ -9,6 +9,7 @@ use borrow.Author.Tests.{lt-ltb, le-ltb, lt-leb, le-leb, leb-true, leb-false}
 use lib.Dec.{leb}
 use lib.ListN.{length, getD}
 use lib.Seq.{sets}
+use Rattle.ground.proofs.Answers.{never}
 use Rattle.ground.specs.Answers.{Answer, accepts, refuses}
 use Rattle.ground.proofs.Cases.{by-test, lt-or-le}
 use Rattle.octets.specs.declared.Length.{Length}
@@ -20,7 +21,6 @@ use Rattle.choices.specs.Operators.{octetOf, numberOf}
 use Rattle.stored.specs.Stored.{ruleWords}
 use Rattle.lists.specs.Runs.{Room}
 use Rattle.walk.specs.Walks.{Body, walkAt, counted}
-use Rattle.walk.proofs.Heres.{never}
 use Rattle.reading.specs.Readings.{ReadRule, readRule, familyOf, ruled, part, statedAt, afterLength, tooLong, readAt, shorter, roomed, readInto, standardOf, byReading, standardInto, Taken, taken, takenOf, wordsOf, operatorsOf}
 use Rattle.reading.specs.Parts.{isBody, bodyIn, bodyAt}
 

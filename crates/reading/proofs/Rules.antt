@@ -8,6 +8,7 @@ use borrow.Author.Tests.{ltb-false}
 use lib.Dec.{ltb}
 use lib.ListN.{length, take, drop, replicate}
 use lib.Seq.{sets, getD-drop}
+use Rattle.ground.proofs.Answers.{never}
 use Rattle.ground.specs.Answers.{Answer, accepts, refuses}
 use Rattle.ground.proofs.Cases.{by-test}
 use Rattle.octets.specs.declared.Length.{Length}
@@ -20,7 +21,6 @@ use Rattle.stored.specs.Stored.{allWords, tailWords, ruleWords, storedRule, rul
 use Rattle.stored.proofs.Inverse.{put-read}
 use Rattle.prefixes.proofs.Accepted.{Octets}
 use Rattle.walk.specs.Walks.{Body, walkAt}
-use Rattle.walk.proofs.Heres.{never}
 use Rattle.reading.specs.Readings.{ReadRule, readRule, familyOf, ruled, part, statedAt, afterLength, tooLong, readAt, shorter, roomed, readInto, wordsOf, nlriOf}
 use Rattle.reading.proofs.Bodies.{Rule, body-rule}
 

@@ -11,7 +11,7 @@ use lib.Dec.{leb}
 use lib.ListN.{length, getD, take, drop, length-append, length-take, List·getD-eq-default}
 use lib.Seq.{getD-take, getD-drop}
 use Rattle.ground.specs.Answers.{accepts}
-use Rattle.ground.proofs.Cases.{lt-or-le}
+use Rattle.ground.proofs.Cases.{lt-or-le, both}
 use Rattle.octets.specs.Lengths.{lengthOctets}
 use Rattle.choices.specs.declared.Reading.{Reading}
 use Rattle.choices.specs.declared.Reading.the-variants.{Plain, Ipv4, Ipv6}
@@ -25,7 +25,6 @@ use Rattle.walk.specs.Walks.{Body, body}
 use Rattle.pieces.specs.Pieces.{pieceOf}
 use Rattle.measuring.specs.Bodies.{lent, opsOf, bodyOctets}
 use Rattle.measuring.specs.Grounds.{allOperators, allTaken, inOrder, takenAfter}
-use Rattle.measuring.proofs.Tests.{both}
 use Rattle.reading.specs.Readings.{ReadRule, readRule, familyOf, part, readAt}
 use Rattle.reading.proofs.Bodies.{Rule}
 use Rattle.reading.proofs.Rules.{read-rule}

@@ -7,6 +7,7 @@ use mathlib.Core.List.{List, [], _∷_, _++_, append-assoc}
 use native.Mathlib.Omega.{arith}
 use borrow.Author.Tests.{le-leb, lt-leb}
 use lib.ListN.{length, getD, length-append}
+use Rattle.ground.proofs.Cases.{both}
 use Rattle.ground.specs.Answers.{accepts}
 use Rattle.choices.specs.declared.Reading.{Reading}
 use Rattle.walk.specs.Walks.{Piece as Found, piece, componentAt, Body, body, walkFrom, walkAt}
@@ -14,7 +15,6 @@ use Rattle.walk.proofs.Heres.{last-most}
 use Rattle.pieces.specs.declared.Piece.{Piece}
 use Rattle.measuring.specs.Bodies.{Lent, pieceOctets, bodyOctets}
 use Rattle.measuring.specs.Grounds.{operatorsIn, pieceTaken, allTaken, risesIn, kindIn, inOrder}
-use Rattle.measuring.proofs.Tests.{both}
 use Rattle.roundtrips.specs.Trips.{placedAt, placed, clearedBy, cleared}
 use Rattle.roundtrips.proofs.Lists.{Standard}
 use Rattle.roundtrips.proofs.Components.{Sound, length-piece, rises-is, component-back, type-back, some-octets}

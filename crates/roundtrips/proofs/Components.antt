@@ -8,6 +8,7 @@ use borrow.Author.Tests.{ltb-true, leb-true}
 use lib.Dec.{ltb, leb}
 use lib.ListN.{length, getD, length-append}
 use lib.Seq.{getD-append-seam}
+use Rattle.ground.proofs.Cases.{both}
 use Rattle.ground.specs.Answers.{accepts}
 use Rattle.choices.specs.declared.Reading.{Reading}
 use Rattle.choices.specs.declared.Reading.the-variants.{Plain, Ipv4, Ipv6}
@@ -27,7 +28,6 @@ use Rattle.pieces.specs.declared.Piece.the-variants.{Prefix, Operators, NoRecor
 use Rattle.listwriting.specs.Lists.{takes}
 use Rattle.measuring.specs.Bodies.{Lent, opsOf, prefixOctets, pieceOctets}
 use Rattle.measuring.specs.Grounds.{operatorsIn, insideOf, prefixTaken, listTaken, pieceTaken, risesIn, kindIn}
-use Rattle.measuring.proofs.Tests.{both}
 use Rattle.roundtrips.specs.Trips.{placedAt, clearedBy}
 use Rattle.roundtrips.proofs.Lists.{Standard, list-back, recorded-back}
 

@@ -6,11 +6,11 @@ use mathlib.Core.List.{List}
 use native.Mathlib.Omega.{arith}
 use borrow.Author.Tests.{eqb-true}
 use lib.Dec.{eqb}
+use Rattle.ground.proofs.Answers.{never}
 use Rattle.ground.specs.Answers.{accepts}
 use Rattle.ground.proofs.Cases.{by-test}
 use Rattle.choices.specs.declared.Reading.{Reading}
 use Rattle.choices.specs.declared.Reading.the-variants.{Plain, Ipv4, Ipv6}
-use Rattle.walk.proofs.Heres.{never}
 use Rattle.reading.specs.Readings.{ReadRule, familyOf, readInto, standardOf, standardInto}
 use Rattle.writing.specs.Writings.{writtenFrom, writtenIn}
 use Rattle.roundtrips.proofs.Lists.{Standard}

@@ -7,13 +7,13 @@ use mathlib.Core.Logic.{⊎-elim}
 use native.Mathlib.Omega.{arith}
 use borrow.Author.Tests.{lt-ltb, le-ltb}
 use lib.ListN.{length, getD}
+use Rattle.ground.proofs.Answers.{never}
 use Rattle.ground.specs.Answers.{accepts}
 use Rattle.ground.proofs.Cases.{lt-or-le}
 use Rattle.octets.specs.declared.Length.{Length}
 use Rattle.octets.specs.Lengths.{lengthIs, lengthAt, lengthOctets}
 use Rattle.octets.proofs.Lengths.{read-none, read-one, read-half, read-two}
 use Rattle.prefixes.proofs.Accepted.{Octets}
-use Rattle.walk.proofs.Heres.{never}
 
 one-octet : (n : ℕ) → n < 240 → lengthOctets n ≡ n ∷ []
 unfolding lengthOctets

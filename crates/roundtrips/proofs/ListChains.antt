@@ -12,7 +12,7 @@ use lib.ListN.{length, length-append, getD, take, drop}
 use lib.Seq.{getD-append-seam, drop-append-add, take-at}
 use Rattle.ground.specs.Answers.{Answer, accepts}
 use Rattle.ground.specs.Picks.{pick}
-use Rattle.ground.proofs.Cases.{by-test}
+use Rattle.ground.proofs.Cases.{by-test, both}
 use Rattle.octets.specs.Widths.{widthOf}
 use Rattle.octets.specs.Spell.{valueOf, spelled}
 use Rattle.octets.proofs.Spells.{length-spelled, value-spelled}
@@ -27,7 +27,6 @@ use Rattle.lists.proofs.Ends.{Turned, at-last, at-more, turned}
 use Rattle.lists.proofs.Records.{length-cleared}
 use Rattle.listwriting.specs.Lists.{fitsIn, ends}
 use Rattle.prefixes.proofs.Accepted.{Octets, value-lt}
-use Rattle.prefixes.proofs.Readings.{both}
 use Rattle.roundtrips.proofs.ListClears.{cleared-width, cleared-mark, cleared-taken, octets-more, octets-least}
 
 data Chain (r : Reading) (k : Kind) (s : List ℕ) : ℕ → List Op → ℕ → Type 0 where

@@ -8,6 +8,7 @@ use native.Mathlib.Omega.{arith}
 use borrow.Author.Tests.{eqb-false, not-true}
 use lib.Dec.{eqb}
 use lib.ListN.{length}
+use Rattle.ground.proofs.Cases.{both}
 use Rattle.ground.specs.Answers.{accepts}
 use Rattle.choices.specs.declared.Reading.{Reading}
 use Rattle.choices.specs.declared.Reading.the-variants.{Plain, Ipv4, Ipv6}
@@ -20,7 +21,6 @@ use Rattle.lists.proofs.Ends.{list-counts}
 use Rattle.lists.proofs.Records.{recorded-length}
 use Rattle.listwriting.specs.Lists.{ends, takes}
 use Rattle.prefixes.proofs.Accepted.{Octets}
-use Rattle.prefixes.proofs.Readings.{both}
 use Rattle.roundtrips.proofs.ListClears.{first-same, cleared-clear, recorded-ends, recorded-octets}
 use Rattle.roundtrips.proofs.ListChains.{written-list, written-ops, accepted-ends, accepted-long}
 -- no reserved bit is left in what is recorded; an operator is written in two octets or more

@@ -10,6 +10,7 @@ use native.Mathlib.Omega.{arith}
 use lib.Dec.{ltb}
 use lib.ListN.{length, getD, take, drop}
 use lib.Pow.{pow-pos}
+use Rattle.ground.proofs.Answers.{never}
 use Rattle.ground.specs.Answers.{accepts}
 use Rattle.ground.proofs.Cases.{by-test, lt-or-le}
 use Rattle.octets.specs.Spell.{valueOf}
@@ -23,7 +24,6 @@ use Rattle.prefixwriting.specs.Writings.{standardOctets}
 use Rattle.prefixwriting.proofs.Puts.{length-standard}
 use Rattle.prefixwriting.proofs.Inverse.{LowWord}
 use Rattle.walk.specs.Walks.{prefixAt}
-use Rattle.walk.proofs.Heres.{never}
 use Rattle.measuring.specs.Bodies.{prefixOctets}
 use Rattle.measuring.specs.Grounds.{prefixTaken}
 use Rattle.roundtrips.proofs.Lists.{Standard}

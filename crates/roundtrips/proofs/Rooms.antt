@@ -6,10 +6,10 @@ use native.Mathlib.Omega.{arith}
 use borrow.Author.Tests.{ltb-false, le-ltb, leb-true, leb-false}
 use lib.Dec.{ltb, leb}
 use lib.ListN.{length}
+use Rattle.ground.proofs.Answers.{never}
 use Rattle.ground.specs.Answers.{Answer, accepts, refuses}
 use Rattle.ground.proofs.Cases.{by-test}
 use Rattle.choices.specs.declared.Reading.{Reading}
-use Rattle.walk.proofs.Heres.{never}
 use Rattle.reading.specs.Readings.{ReadRule, readAt, shorter, roomed, readInto}
 use Rattle.roundtrips.specs.Trips.{Room}
 

@@ -9,6 +9,7 @@ use native.Mathlib.Omega.{arith}
 use borrow.Author.Tests.{le-leb, lt-ltb}
 use lib.Dec.{eqb}
 use lib.ListN.{length, getD, length-append, length-map}
+use Rattle.ground.proofs.Answers.{never}
 use Rattle.ground.specs.Answers.{Answer, accepts, refuses}
 use Rattle.ground.proofs.Cases.{lt-or-le}
 use Rattle.choices.specs.declared.Reading.{Reading}
@@ -25,7 +26,7 @@ use Rattle.lists.specs.declared.Tally.{Tally}
 use Rattle.lists.specs.Lists.{listAt, opsAt, clearedOp, recordedOps}
 use Rattle.walk.specs.Walks.{Piece as Found, piece, prefixAt, prefixPiece, listPiece, Body, body}
 use Rattle.walk.proofs.Founds.{typed-prefix, typed-list}
-use Rattle.walk.proofs.Heres.{never, Here, here}
+use Rattle.walk.proofs.Heres.{Here, here}
 use Rattle.walk.proofs.Chains.{Chain, none, more}
 use Rattle.pieces.specs.declared.Piece.{Piece}
 use Rattle.pieces.specs.declared.Piece.the-variants.{Prefix}

@@ -7,11 +7,11 @@ use mathlib.Core.List.{List, map}
 use borrow.Author.Tests.{ltb-false, le-ltb}
 use lib.Dec.{ltb}
 use lib.ListN.{length}
+use Rattle.ground.proofs.Answers.{never}
 use Rattle.ground.specs.Answers.{Answer, accepts, refuses}
 use Rattle.ground.proofs.Cases.{by-test}
 use Rattle.choices.specs.declared.Reading.{Reading}
 use Rattle.stored.specs.Stored.{StoredRule, ruleAt}
-use Rattle.walk.proofs.Heres.{never}
 use Rattle.pieces.specs.Pieces.{pieceOf}
 use Rattle.measuring.specs.Bodies.{lent, bodyOctets}
 use Rattle.measuring.specs.Grounds.{bodyTaken}

@@ -10,6 +10,7 @@ use borrow.Author.Tests.{lt-ltb, le-leb, leb-false, eqb-true, eq-eqb}
 use lib.Dec.{ltb, leb, eqb}
 use lib.ListN.{length, getD, take, drop, replicate, length-append, length-drop, length-replicate, take-append-drop}
 use lib.Seq.{sets, sets-eq, length-sets, drop-at, drop-drop, getD-drop, take-add, drop-cons, length-take-le}
+use Rattle.ground.proofs.Cases.{both}
 use Rattle.ground.specs.Answers.{Answer, accepts, refuses}
 use Rattle.ground.specs.Picks.{pick}
 use Rattle.rules.specs.declared.NetworkPrefix.{NetworkPrefix}
@@ -20,7 +21,6 @@ use Rattle.rules.specs.Components.{typeOf, listOf, countsAs, holdsOne}
 use Rattle.stored.specs.declared.Quad.{Quad}
 use Rattle.stored.specs.declared.Part.the-variants.{Is, NoRecord}
 use Rattle.stored.specs.Stored.{quad, quadOf, quadWords, componentWords, allWords, tailWords, ruleWords, prefixQuad, networkOf, componentOf, sameQuad, quadAt, isComponent, partOf, partAt, inRule, componentsFrom, partsFrom, zerosFrom, StoredRule, storedRule, isRule, storedAt, ruleAt}
-use Rattle.stored.proofs.Tests.{both}
 use Rattle.stored.proofs.Words.{is-a-rule, at-good, length-all, length-components}
 
 -- what every value of these types is: each field fits its width

@@ -9,10 +9,10 @@ use lib.ListN.{length, getD, take, drop, set, replicate, length-append, length-m
 use lib.Seq.{sets, drop-cons, set-at}
 use lib.Dec.{eqb, leb, ltb}
 use borrow.Author.Tests.{eq-eqb, ne-eqb, lt-ltb, le-ltb, ltb-true, le-leb, lt-leb, leb-true}
+use Rattle.ground.proofs.Cases.{both}
 use Rattle.ground.specs.Answers.{accepts, refuses}
 use Rattle.ground.specs.Picks.{pick}
 use Rattle.ground.proofs.Overlays.{sets-append}
-use Rattle.stored.proofs.Tests.{both}
 use Rattle.rules.specs.declared.NetworkPrefix.{NetworkPrefix}
 use Rattle.rules.specs.declared.Span.{Span}
 use Rattle.rules.specs.declared.FlowSpecComponent.{FlowSpecComponent}

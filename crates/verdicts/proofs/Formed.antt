@@ -9,7 +9,7 @@ use lib.Dec.{eqb, leb}
 use lib.ListN.{length, getD, drop, length-drop}
 use Rattle.ground.specs.Answers.{refuses}
 use Rattle.ground.specs.Picks.{pick}
-use Rattle.ground.proofs.Cases.{by-test}
+use Rattle.ground.proofs.Cases.{by-test, both}
 use Rattle.choices.specs.declared.Reading.{Reading}
 use Rattle.choices.specs.declared.Reading.the-variants.{Ipv4, Ipv6}
 use Rattle.choices.specs.Operators.{Op}
@@ -18,7 +18,6 @@ use Rattle.stored.specs.Stored.{StoredRule, isRule, storedAt, ruleAt}
 use Rattle.pieces.specs.Pieces.{pieceOf}
 use Rattle.measuring.specs.Bodies.{lent, bodyOctets}
 use Rattle.measuring.specs.Grounds.{listTaken, allOperators, allTaken, inOrder, takenAfter, bodyTaken}
-use Rattle.measuring.proofs.Tests.{both}
 use Rattle.writing.specs.Writings.{answerFor, writtenRule, writtenFrom, writtenIn}
 use Rattle.ranking.specs.Ranks.{AllInside, Rankable}
 use Rattle.verdicts.specs.Verdicts.{accepted, wellFormed}

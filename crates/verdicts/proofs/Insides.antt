@@ -5,6 +5,7 @@ use mathlib.Core.Bool.{true, false, false≢true}
 use mathlib.Core.List.{List, [], _∷_, map}
 use native.Mathlib.Omega.{arith}
 use lib.ListN.{length}
+use Rattle.ground.proofs.Cases.{both}
 use Rattle.choices.specs.declared.Reading.{Reading}
 use Rattle.choices.specs.Operators.{Op, opsIn}
 use Rattle.rules.specs.declared.FlowSpecComponent.{FlowSpecComponent}
@@ -14,7 +15,6 @@ use Rattle.listwriting.specs.Lists.{takes}
 use Rattle.pieces.specs.Pieces.{pieceOf, listPiece}
 use Rattle.measuring.specs.Bodies.{Lent, opsOf}
 use Rattle.measuring.specs.Grounds.{insideOf, listTaken, pieceTaken, allTaken}
-use Rattle.measuring.proofs.Tests.{both}
 use Rattle.measuring.proofs.Insides.{inside-both}
 use Rattle.ranking.specs.Ranks.{Within, Inside, AllInside, contentOf}
 

@@ -7,11 +7,12 @@ use mathlib.Core.Logic.{⊎-elim}
 use native.Mathlib.Omega.{arith}
 use borrow.Author.Tests.{le-leb, lt-leb}
 use lib.ListN.{length, getD}
+use Rattle.ground.proofs.Answers.{never}
 use Rattle.ground.specs.Answers.{Answer, accepts, refuses}
 use Rattle.ground.proofs.Cases.{lt-or-le}
 use Rattle.choices.specs.declared.Reading.{Reading}
 use Rattle.walk.specs.Walks.{Piece, componentAt, Body, body, joined, turn, walkFrom, walkAt}
-use Rattle.walk.proofs.Heres.{never, here}
+use Rattle.walk.proofs.Heres.{here}
 
 -- from a place, a last type and a first operator place on: a body, and the place where it ends
 pub data Chain (r : Reading) (s : List ℕ) (stop : ℕ) : ℕ → ℕ → ℕ → Body → ℕ → Type 0 where

@@ -6,6 +6,7 @@ use mathlib.Core.List.{List}
 use mathlib.Core.Logic.{⊎-elim}
 use native.Mathlib.Omega.{arith}
 use lib.ListN.{length, getD}
+use Rattle.ground.proofs.Answers.{never}
 use Rattle.ground.specs.Answers.{Answer, accepts, refuses}
 use Rattle.ground.proofs.Cases.{lt-or-le}
 use Rattle.choices.specs.declared.Reading.{Reading}
@@ -17,11 +18,8 @@ use Rattle.prefixes.proofs.Accepted.{plain-next, ipv4-next, ipv6-next}
 use Rattle.lists.specs.declared.Tally.{Tally}
 use Rattle.lists.specs.Lists.{listAt, opsAt, recordedOps}
 use Rattle.lists.proofs.Ends.{list-ends}
-use Rattle.walk.specs.Walks.{prefixAt, prefixPiece, listPiece, typedAt, Piece, piece, componentAt, Sight, sight, seen}
+use Rattle.walk.specs.Walks.{prefixAt, prefixPiece, listPiece, typedAt, Piece, componentAt, Sight, sight, seen}
 use Rattle.walk.proofs.Founds.{found-missing, found-order, found-type, found-typed, typed-prefix, typed-list, recorded-counts}
-
-pub never : {A B : Type 0} {n : ℕ} {c : List ℕ} {x : B} → refuses n c ≡ accepts x → A
-never e = let z : _≡_ {A = ℕ} 0 1 = cc in absurd (omega arith)
 
 pub last-most : (r : Reading) → lastType r ≤ 13
 last-most Plain = omega arith

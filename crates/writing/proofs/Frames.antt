@@ -2,28 +2,25 @@
 -- Assumes nothing.
 use Prim.Native.Nat.{ℕ, _+_, _-_, _*_, _/_, _≤_, _<_}
 use mathlib.Core.Path.{_≡_, refl, sym, ap, ap₂, _∙_}
-use mathlib.Core.Bool.{Bool, true, false, _&&_, _||_, false≢true}
-use mathlib.Core.List.{List, [], _∷_, _++_, map}
+use mathlib.Core.Bool.{Bool, true, false, _&&_}
+use mathlib.Core.List.{List, [], _∷_, _++_}
 use native.Mathlib.Omega.{arith}
-use borrow.Author.Tests.{eq-eqb, ne-eqb, lt-ltb, le-ltb, le-leb, lt-leb, leb-true, leb-false}
-use lib.Dec.{leb, ltb, eqb}
+use borrow.Author.Tests.{eq-eqb, ne-eqb, lt-ltb, le-ltb, le-leb, lt-leb, leb-true}
+use lib.Dec.{leb, ltb}
 use lib.ListN.{length, getD, length-append}
 use lib.Seq.{sets, length-sets}
 use Rattle.ground.specs.Answers.{Answer, accepts, refuses}
-use Rattle.ground.specs.Picks.{pick}
-use Rattle.ground.proofs.Cases.{by-test}
+use Rattle.ground.proofs.Cases.{by-test, both}
 use Rattle.ground.proofs.Overlays.{sets-append}
 use Rattle.octets.specs.Lengths.{lengthOctets, lengthInto}
 use Rattle.choices.specs.declared.Reading.{Reading}
-use Rattle.choices.specs.declared.Reading.the-variants.{Plain, Ipv4, Ipv6}
-use Rattle.stored.specs.Stored.{componentsFrom, partsFrom, zerosFrom, isRule, ruleAt, storedAt, storedRule}
-use Rattle.pieces.specs.Pieces.{pieceOf}
-use Rattle.measuring.specs.declared.Measured.{Measured}
+use Rattle.choices.specs.declared.Reading.the-variants.{Ipv4, Ipv6}
+use Rattle.stored.specs.Stored.{partsFrom, zerosFrom, isRule, ruleAt}
 use Rattle.measuring.specs.declared.Measured.the-variants.{Body, BadRecord}
-use Rattle.measuring.specs.Bodies.{Lent, lent, bodyOctets}
+use Rattle.measuring.specs.Bodies.{lent, bodyOctets}
 use Rattle.measuring.specs.Grounds.{allOperators, allTaken, inOrder, takenAfter, bodyTaken, piecesFrom, measured}
-use Rattle.measuring.proofs.Tests.{both, and-false}
-use Rattle.writing.specs.Writings.{counted, octetsIn, nlriOctets, answerFor, writtenRule, onRule, writtenFrom, writtenIn}
+use Rattle.measuring.proofs.Tests.{and-false}
+use Rattle.writing.specs.Writings.{counted, octetsIn, nlriOctets, answerFor, writtenRule, writtenFrom, writtenIn}
 use Rattle.writing.specs.Frames.{framed, writtenBody}
 
 -- ---- what was measured
