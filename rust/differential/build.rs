@@ -1,5 +1,5 @@
-//! Links libkrubbadin.a, the archive of the proved code: the one that KRUBBADIN_ARCHIVE names, else
-//! what `rt staticlib krubbadin` wrote.
+//! Links libkrubbadin.a, the archive of the proved code, with the feature `archive`: the one that
+//! KRUBBADIN_ARCHIVE names, else what `rt staticlib krubbadin` wrote.
 
 use std::path::PathBuf;
 use std::{env, process};
@@ -8,6 +8,9 @@ const NAMED: &str = "KRUBBADIN_ARCHIVE";
 const DEFAULT: &str = "../../target/staticlib/libkrubbadin.a";
 
 fn main() {
+    if env::var_os("CARGO_FEATURE_ARCHIVE").is_none() {
+        return;
+    }
     let archive = env::var_os(NAMED).map_or_else(|| PathBuf::from(DEFAULT), PathBuf::from);
     // Without these cargo would go on with the old archive when only the archive changed.
     println!("cargo:rerun-if-env-changed={NAMED}");

@@ -1,4 +1,4 @@
-// The calls of the stored list, by their names, each put to the proved code and answered in the oracle's words.
+// The calls of the stored list, by their names, each put to the proved code and answered in the list's words.
 use choices::Reading;
 use operators::BitmaskOperator;
 use operators::BitmaskRead;
@@ -6,30 +6,14 @@ use operators::NumericOperator;
 use operators::NumericRead;
 use operators::OctetMade;
 use reading::ReadInto;
-use refusals::Fault;
 use rules::FlowSpecComponent;
 use rules::FlowSpecNlri;
 use writing::Written;
 
-// A refusal: its number and what it carries.
-fn put_fault(out: &mut [u8], at: usize, fault: Fault) -> usize {
-    let error = fault.error;
-    let end = super::text::put_number(out, at, refusals::number(error) as u64);
-    let count = refusals::carried_count(error);
-    if count == 0 {
-        return end;
-    }
-    let first = super::text::put_number(out, end, refusals::first_carried(error));
-    if count == 1 {
-        return first;
-    }
-    super::text::put_number(out, first, refusals::second_carried(error))
-}
-
 fn put_octet(out: &mut [u8], at: usize, made: OctetMade) -> usize {
     match made {
         OctetMade::Octet(octet) => super::text::put_number(out, at, octet as u64),
-        OctetMade::Refused(fault) => put_fault(out, at, fault),
+        OctetMade::Refused(fault) => super::text::put_fault(out, at, fault),
     }
 }
 
@@ -59,25 +43,27 @@ fn put_bitmask(out: &mut [u8], o: BitmaskOperator) -> usize {
     put_octet(out, at, o.to_byte())
 }
 
-fn octet_in(line: &[u8], field: u8) -> u8 {
-    (super::text::number(line, field) % 256) as u8
-}
-
 fn flag_in(line: &[u8], field: u8) -> bool {
     super::text::number(line, field) == 1
 }
 
 fn numeric(line: &[u8], out: &mut [u8]) -> usize {
-    match NumericOperator::from_byte_and_value(octet_in(line, 1), super::text::number(line, 2)) {
+    match NumericOperator::from_byte_and_value(
+        super::text::octet(line, 1),
+        super::text::number(line, 2),
+    ) {
         NumericRead::Operator(o) => put_numeric(out, o),
-        NumericRead::Refused(fault) => put_fault(out, 0, fault),
+        NumericRead::Refused(fault) => super::text::put_fault(out, 0, fault),
     }
 }
 
 fn bitmask(line: &[u8], out: &mut [u8]) -> usize {
-    match BitmaskOperator::from_byte_and_value(octet_in(line, 1), super::text::number(line, 2)) {
+    match BitmaskOperator::from_byte_and_value(
+        super::text::octet(line, 1),
+        super::text::number(line, 2),
+    ) {
         BitmaskRead::Operator(o) => put_bitmask(out, o),
-        BitmaskRead::Refused(fault) => put_fault(out, 0, fault),
+        BitmaskRead::Refused(fault) => super::text::put_fault(out, 0, fault),
     }
 }
 
@@ -85,7 +71,7 @@ fn numeric_record(line: &[u8], out: &mut [u8]) -> usize {
     let o = NumericOperator {
         end_of_list: flag_in(line, 1),
         and_with_next: flag_in(line, 2),
-        value_length: octet_in(line, 3),
+        value_length: super::text::octet(line, 3),
         less_than: flag_in(line, 4),
         greater_than: flag_in(line, 5),
         equal: flag_in(line, 6),
@@ -99,7 +85,7 @@ fn bitmask_record(line: &[u8], out: &mut [u8]) -> usize {
     let o = BitmaskOperator {
         end_of_list: flag_in(line, 1),
         and_with_next: flag_in(line, 2),
-        value_length: octet_in(line, 3),
+        value_length: super::text::octet(line, 3),
         not: flag_in(line, 4),
         match_flag: flag_in(line, 5),
         bitmask: super::text::number(line, 6),
@@ -108,38 +94,25 @@ fn bitmask_record(line: &[u8], out: &mut [u8]) -> usize {
     put_octet(out, at, o.to_byte())
 }
 
-// An NLRI read by the plain reading, its rule as text.
-fn parse(line: &[u8], out: &mut [u8]) -> usize {
-    let mut input = [0u8; 5000];
+// The NLRI in a field, read in a family or, with 0 for the family, by the plain reading: its rule as text.
+fn parse(line: &[u8], field: u8, family: u8, out: &mut [u8]) -> usize {
     let mut words = [0u64; 64];
     let mut values = [0u64; 2100];
     let mut octets = [0u8; 2100];
-    let n = super::ruletext::read_octets(line, 6, &mut input);
-    put_read(&input, n, &mut words, &mut values, &mut octets, out)
-}
-
-fn put_read(
-    input: &[u8],
-    n: usize,
-    words: &mut [u64],
-    values: &mut [u64],
-    octets: &mut [u8],
-    out: &mut [u8],
-) -> usize {
-    if input.len() < n {
-        return 0;
-    }
-    match reading::read_into(Reading::Plain, &input[..n], words, values, octets) {
+    let from = super::text::place(line, field);
+    match super::ruletext::read_nlri(line, from, family, &mut words, &mut values, &mut octets) {
         ReadInto::Read {
             used: _,
             operators: _,
-        } => {
-            let end = super::text::put_number(out, 0, 0);
-            let at = super::text::put(out, end, b' ');
-            super::ruletext::put_rule(out, at, words, values, octets)
-        }
-        ReadInto::Refused(fault) => put_fault(out, 0, fault),
+        } => put_read(&words, &values, &octets, out),
+        ReadInto::Refused(fault) => super::text::put_fault(out, 0, fault),
     }
+}
+
+fn put_read(words: &[u64], values: &[u64], octets: &[u8], out: &mut [u8]) -> usize {
+    let end = super::text::put_number(out, 0, 0);
+    let at = super::text::put(out, end, b' ');
+    super::ruletext::put_rule(out, at, words, values, octets)
 }
 
 // A rule written by the plain writing.
@@ -165,7 +138,7 @@ fn put_written(
             let at = super::text::put(out, end, b' ');
             super::ruletext::put_octets(out, at, written, n)
         }
-        Written::Refused(fault) => put_fault(out, 0, fault),
+        Written::Refused(fault) => super::text::put_fault(out, 0, fault),
     }
 }
 
@@ -216,7 +189,7 @@ fn answer(line: &[u8], out: &mut [u8]) -> usize {
         return bitmask_record(line, out);
     }
     if super::text::is(line, b"parse") {
-        return parse(line, out);
+        return parse(line, 1, 0, out);
     }
     if super::text::is(line, b"encode") {
         return encode(line, out);
@@ -244,6 +217,23 @@ fn constructed(line: &[u8], out: &mut [u8]) -> usize {
     }
     if super::text::is(line, b"partial_match") {
         return put_bitmask(out, BitmaskOperator::partial_match(value));
+    }
+    decided(line, out)
+}
+
+// The answers that take the standard reading.
+fn decided(line: &[u8], out: &mut [u8]) -> usize {
+    if super::text::is(line, b"standard") {
+        return parse(line, 2, super::text::octet(line, 1), out);
+    }
+    if super::text::is(line, b"match") {
+        return super::deciding::matches(line, out);
+    }
+    if super::text::is(line, b"rank") {
+        return super::deciding::rank(line, out);
+    }
+    if super::text::is(line, b"choose") {
+        return super::deciding::choose(line, out);
     }
     0
 }

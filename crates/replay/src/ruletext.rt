@@ -1,7 +1,11 @@
 // The text of a rule, as `oracle --help` (rust/oracle) has it, to the words and the operator lists of a stored rule and back: `-` for no
-// components, else components joined by `;`, as `1:4/24/C0000200` or `5:03=80,45=90`. Every function takes any octets: what can't be
-// read gives some rule, and what has no room is not written, so that such a line differs.
+// components, else components joined by `;`, as `1:4/24/C0000200` or `5:03=80,45=90`; and the rule that a text of octets is read to. Every
+// function takes any octets: what can't be read gives some rule, and what has no room is not written, so that such a line differs.
 use super::text::put;
+use choices::Reading;
+use reading::ReadInto;
+use refusals::Fault;
+use refusals::FlowSpecError;
 
 // A number that was read, and the place after it.
 pub struct Taken {
@@ -15,7 +19,7 @@ pub struct Reached {
     pub operators: usize,
 }
 
-fn store(words: &mut [u64], place: usize, word: u64) {
+pub fn store(words: &mut [u64], place: usize, word: u64) {
     if place < words.len() {
         words[place] = word;
     }
@@ -25,12 +29,12 @@ fn word_at(words: &[u64], place: usize) -> u64 {
     if place < words.len() { words[place] } else { 0 }
 }
 
-fn octet_at(s: &[u8], at: usize) -> u8 {
+pub fn octet_at(s: &[u8], at: usize) -> u8 {
     if at < s.len() { s[at] } else { b' ' }
 }
 
 // A place further, where the text has this octet.
-fn past(s: &[u8], at: usize, octet: u8) -> usize {
+pub fn past(s: &[u8], at: usize, octet: u8) -> usize {
     if at < s.len() {
         if s[at] == octet {
             return at + 1;
@@ -88,17 +92,14 @@ fn hex(s: &[u8], from: usize, digits: u8) -> Taken {
     }
 }
 
-// The octets of a text of hex pairs, `-` for none. Answers how many.
+// The octets of a text of hex pairs, up to the first that stands in none; `-` for none. Answers how many.
 pub fn read_octets(s: &[u8], from: usize, out: &mut [u8]) -> usize {
     let mut at = from;
     let mut n: usize = 0;
     let mut turns = s.len();
     while 0 < turns {
         let octet = octet_at(s, at);
-        if octet == b' ' {
-            return n;
-        }
-        if octet == b'-' {
+        if octet < b'0' {
             return n;
         }
         let pair = hex(s, at, 2);
@@ -107,6 +108,41 @@ pub fn read_octets(s: &[u8], from: usize, out: &mut [u8]) -> usize {
         turns -= 1;
     }
     n
+}
+
+// The NLRI at a place of a line, read in a family or, with 0 for the family, by the plain reading.
+pub fn read_nlri(
+    line: &[u8],
+    from: usize,
+    family: u8,
+    words: &mut [u64],
+    values: &mut [u64],
+    octets: &mut [u8],
+) -> ReadInto {
+    let mut input = [0u8; 5000];
+    let n = read_octets(line, from, &mut input);
+    read_front(family, &input, n, words, values, octets)
+}
+
+// What is in the first octets.
+fn read_front(
+    family: u8,
+    input: &[u8],
+    n: usize,
+    words: &mut [u64],
+    values: &mut [u64],
+    octets: &mut [u8],
+) -> ReadInto {
+    if input.len() < n {
+        return ReadInto::Refused(Fault {
+            error: FlowSpecError::InputTooLong(n),
+        });
+    }
+    let front = &input[..n];
+    if family == 0 {
+        return reading::read_into(Reading::Plain, front, words, values, octets);
+    }
+    reading::read(family, front, words, values, octets)
 }
 
 fn past_digit(s: &[u8], at: usize) -> usize {

@@ -1,5 +1,6 @@
 // The text of a line: fields with one blank between them, numbers in upper-case hex. Every function takes any octets: what is not there
 // reads as 0, and what has no room is not written, so that such a line differs.
+use refusals::Fault;
 
 // The first place from `from` on that holds an octet, or the end.
 pub fn find(s: &[u8], from: usize, octet: u8) -> usize {
@@ -65,13 +66,13 @@ pub fn digit(octet: u8) -> u64 {
     0
 }
 
-// The number at a place, up to the next blank or the end; its last 16 digits count.
-fn number_at(s: &[u8], from: usize) -> u64 {
+// The number at a place, up to the next blank or comma or the end; its last 16 digits count.
+pub fn number_at(s: &[u8], from: usize) -> u64 {
     let mut v: u64 = 0;
     let mut i = from;
     while i < s.len() {
         let octet = s[i];
-        if octet == b' ' {
+        if octet < b'0' {
             return v;
         }
         v = v % 0x1000_0000_0000_0000 * 16 + digit(octet) % 16;
@@ -80,19 +81,28 @@ fn number_at(s: &[u8], from: usize) -> u64 {
     v
 }
 
-// The number in the field of a place, the name being field 0.
-pub fn number(s: &[u8], field: u8) -> u64 {
+// The place where a field starts, the name being field 0; the end where there is none.
+pub fn place(s: &[u8], field: u8) -> usize {
     let mut at: usize = 0;
     let mut k: u8 = 0;
     while k < field {
         let blank = find(s, at, b' ');
         if s.len() <= blank {
-            return 0;
+            return s.len();
         }
         at = blank + 1;
         k += 1;
     }
-    number_at(s, at)
+    at
+}
+
+// The number in a field.
+pub fn number(s: &[u8], field: u8) -> u64 {
+    number_at(s, place(s, field))
+}
+
+pub fn octet(s: &[u8], field: u8) -> u8 {
+    (number(s, field) % 256) as u8
 }
 
 pub fn put(out: &mut [u8], at: usize, octet: u8) -> usize {
@@ -127,6 +137,21 @@ pub fn put_flag(out: &mut [u8], at: usize, set: bool) -> usize {
     } else {
         put_number(out, at, 0)
     }
+}
+
+// A refusal: its number and what it carries.
+pub fn put_fault(out: &mut [u8], at: usize, fault: Fault) -> usize {
+    let error = fault.error;
+    let end = put_number(out, at, refusals::number(error) as u64);
+    let count = refusals::carried_count(error);
+    if count == 0 {
+        return end;
+    }
+    let first = put_number(out, end, refusals::first_carried(error));
+    if count == 1 {
+        return first;
+    }
+    put_number(out, first, refusals::second_carried(error))
 }
 
 // Whether a line goes on from a place to its end as the first n octets say.

@@ -5,16 +5,21 @@
 //! `inputs` and `records` make what readings and writings are asked, `compare` asks it and compares;
 //! `edges`, `flows`, `packets` and `tables` make what matching, ranking and choosing are asked,
 //! `decisions` asks it and compares. `wordwise` is a chooser to be timed. A rule crosses the
-//! surface as words; `stored` knows that form, `packets` that of a packet. `requests` has the texts of
-//! stored answers, and `samples` those that are stored. `src/bin` has the programs.
+//! surface as words; `stored` knows that form, `packets` that of a packet. `requests` and `lines`
+//! have the texts of stored answers, and `samples` those that are stored. `src/bin` has the programs.
+//! Without the feature `archive` nothing of the proved code is linked, nor compared with.
 
+#[cfg(feature = "archive")]
 pub mod archive;
+#[cfg(feature = "archive")]
 pub mod compare;
+#[cfg(feature = "archive")]
 pub mod decisions;
 pub mod edges;
 pub mod flows;
 pub mod inputs;
 pub mod lent;
+pub mod lines;
 pub mod packets;
 pub mod peers;
 pub mod random;
@@ -89,6 +94,20 @@ impl Answer {
 
     pub fn is_accepted(&self) -> bool {
         self.status == 0
+    }
+
+    /// What a refusal carries.
+    pub fn carried(&self) -> Vec<u64> {
+        match self.status {
+            refusal::INVALID_COMPONENT_ORDER => vec![self.first, self.second],
+            refusal::INVALID_COMPONENT_TYPE
+            | refusal::VALUE_TOO_LARGE
+            | refusal::NO_ROOM
+            | refusal::BAD_FAMILY
+            | refusal::TOO_MANY_RULES
+            | refusal::MIXED_FAMILY => vec![self.first],
+            _ => Vec::new(),
+        }
     }
 }
 

@@ -140,7 +140,7 @@ pub fn timed_rank(one: &Stored, other: &Stored) -> [Answer; 2] {
     ]
 }
 
-fn order(order: Result<Ordering, Refusal>) -> Answer {
+pub fn order(order: Result<Ordering, Refusal>) -> Answer {
     match order {
         Ok(Ordering::Equal) => Answer::accepted(0, 0),
         Ok(Ordering::Less) => Answer::accepted(1, 0),
@@ -163,7 +163,7 @@ pub fn timed_choose(table: &Stored, packet: &[u64]) -> [Answer; 2] {
     ]
 }
 
-fn place(place: Result<Option<usize>, Refusal>) -> Answer {
+pub fn place(place: Result<Option<usize>, Refusal>) -> Answer {
     match place {
         Ok(Some(place)) => Answer::accepted(1, place),
         Ok(None) => Answer::accepted(0, 0),

@@ -112,14 +112,11 @@ impl Request {
                 family,
                 input,
                 packet,
-            } => {
-                let told = |flow| standard::matches(&flow, packet);
-                match flow(*family, input).and_then(told) {
-                    Ok(true) => "yes".to_string(),
-                    Ok(false) => "no".to_string(),
-                    Err(refusal) => refused(peers::standard_refusal(refusal)),
-                }
-            }
+            } => match matches(*family, input, packet) {
+                Ok(true) => "yes".to_string(),
+                Ok(false) => "no".to_string(),
+                Err(refusal) => refused(peers::standard_refusal(refusal)),
+            },
             Request::Rank { family, one, other } => match rank(*family, one, other) {
                 Ok(Ordering::Less) => "first".to_string(),
                 Ok(Ordering::Equal) => "equal".to_string(),
@@ -167,30 +164,24 @@ fn flow(family: u8, input: &[u8]) -> Result<Flow, Refusal> {
     Ok(Flow { family, rule })
 }
 
-fn rank(family: u8, one: &[u8], other: &[u8]) -> Result<Ordering, Refusal> {
+pub fn matches(family: u8, input: &[u8], packet: &Packet) -> Result<bool, Refusal> {
+    standard::matches(&flow(family, input)?, packet)
+}
+
+pub fn rank(family: u8, one: &[u8], other: &[u8]) -> Result<Ordering, Refusal> {
     standard::rank(&flow(family, one)?, &flow(family, other)?)
 }
 
 /// A refusal with what it carries.
 fn refused(answer: Answer) -> String {
-    let Answer {
-        status,
-        first,
-        second,
-    } = answer;
-    match status {
-        refusal::INVALID_COMPONENT_ORDER => format!("err {status} {first},{second}"),
-        refusal::INVALID_COMPONENT_TYPE
-        | refusal::VALUE_TOO_LARGE
-        | refusal::NO_ROOM
-        | refusal::BAD_FAMILY
-        | refusal::TOO_MANY_RULES
-        | refusal::MIXED_FAMILY => format!("err {status} {first}"),
-        _ => format!("err {status}"),
+    let carried: Vec<String> = answer.carried().iter().map(u64::to_string).collect();
+    match carried[..] {
+        [] => format!("err {}", answer.status),
+        _ => format!("err {} {}", answer.status, carried.join(",")),
     }
 }
 
-fn hex(octets: &[u8]) -> String {
+pub fn hex(octets: &[u8]) -> String {
     match octets {
         [] => "-".to_string(),
         _ => octets.iter().map(|octet| format!("{octet:02X}")).collect(),
@@ -214,7 +205,7 @@ fn flows_text(flows: &[Flow]) -> String {
     }
 }
 
-fn rule_text(rule: &Rule) -> String {
+pub fn rule_text(rule: &Rule) -> String {
     let component = |Component { kind, content }: &Component| match content {
         Content::Prefix(prefix) => format!("{kind}:{}", prefix_text(prefix)),
         Content::List(list) => {

@@ -32,14 +32,6 @@ same-length c = omega arith
 returns : tie.Need-returns Inv-loop μ-loop
 returns c = tt
 
--- src/ruletext.rt:102:13
-same-length-2 : tie.Need-same-length-2 Inv-loop μ-loop
-same-length-2 c = omega arith
-
--- src/ruletext.rt:102:13
-returns-2 : tie.Need-returns-2 Inv-loop μ-loop
-returns-2 c = tt
-
 -- src/ruletext.rt:104:13
 hex-requires : tie.Need-hex-requires Inv-loop μ-loop
 hex-requires c κs = tt
@@ -65,12 +57,12 @@ loop-again : tie.Need-loop-again Inv-loop μ-loop
 loop-again c = omega arith
 
 -- src/ruletext.rt:92:1
-same-length-3 : tie.Need-same-length-3 Inv-loop μ-loop
-same-length-3 c = omega arith
+same-length-2 : tie.Need-same-length-2 Inv-loop μ-loop
+same-length-2 c = omega arith
 
 -- src/ruletext.rt:92:1
-returns-3 : tie.Need-returns-3 Inv-loop μ-loop
-returns-3 c = tt
+returns-2 : tie.Need-returns-2 Inv-loop μ-loop
+returns-2 c = tt
 
 pub read-octets-spec : {M : Type 1} → statement M
 read-octets-spec =
@@ -82,13 +74,11 @@ read-octets-spec =
     octet-at-requires
     same-length
     returns
-    same-length-2
-    returns-2
     hex-requires
     cast-put
     put-requires
     sub-turns
     loop-less
     loop-again
-    same-length-3
-    returns-3)
+    same-length-2
+    returns-2)

@@ -1,14 +1,13 @@
--- `replay::text::number` is safe and ends: the fields that are left fall. Assumes nothing.
+-- `replay::text::place` is safe and ends: the fields that are left fall. Assumes nothing.
 use borrow.Author.Needs.{needs}
 use native.Mathlib.Omega.{arith}
 use lib.ListN.{length}
 use Prim.Native.Nat.{_≤_, _-_}
-use Rattle.replay.proofs.text.number.Statement.{statement}
-use Rattle.replay.proofs.text.number.Tie as tie
-use Rattle.replay.proofs.text.number.Reads as reads
-use Rattle.replay.proofs.text.number.Lts as lts
+use Rattle.replay.proofs.text.place.Statement.{statement}
+use Rattle.replay.proofs.text.place.Tie as tie
+use Rattle.replay.proofs.text.place.Reads as reads
+use Rattle.replay.proofs.text.place.Lts as lts
 use Rattle.replay.proofs.text.find.Reads as find-reads
-use Rattle.replay.proofs.text.number_at.Reads as number-at-reads
 
 abbrev Inv-loop : tie.InvT-loop
 Inv-loop s field at₀ k₀ at k = Unit {0}
@@ -44,16 +43,12 @@ loop-less c = omega arith
 loop-again : tie.Need-loop-again Inv-loop μ-loop
 loop-again c = tt
 
--- src/text.rt:78:5
-number-at-requires : tie.Need-number-at-requires Inv-loop μ-loop
-number-at-requires c κs = omega arith
-
 -- src/text.rt:67:1
 returns-2 : tie.Need-returns-2 Inv-loop μ-loop
 returns-2 c = tt
 
-pub number-spec : {M : Type 1} → statement M
-number-spec =
+pub place-spec : {M : Type 1} → statement M
+place-spec =
     tie.close
     (tie.spec
     Inv-loop
@@ -65,5 +60,4 @@ number-spec =
     add-k
     loop-less
     loop-again
-    number-at-requires
     returns-2)
