@@ -1,6 +1,6 @@
 //! The proved code beside Rust, in one process.
 //!
-//! `archive` calls the proved code through its C surface, `peers` has what must come back: by the
+//! `archive` calls the proved code by the crate over it, `peers` has what must come back: by the
 //! original Rust (`oracle`) for the plain reading and writing, by `standard` for the others.
 //! `inputs` and `records` make what readings and writings are asked, `compare` asks it and compares;
 //! `edges`, `flows`, `packets` and `tables` make what matching, ranking and choosing are asked,
@@ -49,7 +49,6 @@ impl std::fmt::Display for Form {
 }
 
 /// What a call answers: status 0 with what was found, or a refusal's number with what it carries.
-#[repr(C)]
 #[derive(Debug, Clone, Copy, PartialEq, Eq)]
 pub struct Answer {
     pub status: u64,
