@@ -1,4 +1,4 @@
--- What is stored of a prefix and of a piece. Assumes nothing.
+-- What is stored of a prefix and of a piece.
 use Prim.Native.Nat.{ℕ, zero, suc, _+_, _-_, _*_, _/_, _^_, _≤_}
 use mathlib.Core.Path.{_≡_, refl, sym, ap, ap₂, _∙_}
 use mathlib.Core.Bool.{true, false, false≢true}
@@ -16,8 +16,7 @@ use Rattle.octets.specs.Spell.{spelled}
 use Rattle.octets.proofs.Spells.{spelled-parts, length-spelled}
 use Rattle.choices.specs.declared.Reading.{Reading}
 use Rattle.choices.specs.declared.Reading.the-variants.{Plain, Ipv4, Ipv6}
-use Rattle.choices.specs.Choices.{kindOf}
-use Rattle.choices.specs.Operators.{listOctets}
+use Rattle.operators.specs.Ops.{kindOf, listOctets}
 use Rattle.rules.specs.declared.NetworkPrefix.{NetworkPrefix}
 use Rattle.rules.specs.declared.NetworkPrefix.the-variants.{Ipv4 as V4}
 use Rattle.prefixes.specs.Prefixes.{octetsOf}

@@ -1,4 +1,4 @@
--- The turns of the walk that writes: with what is left of the words stored at p, the output is as it shall be. Assumes nothing.
+-- The turns of the walk that writes: with what is left of the words stored at p, the output is as it shall be.
 use Prim.Native.Nat.{ℕ, suc, _+_, _-_, _*_, _≤_, _<_}
 use mathlib.Core.Path.{_≡_, refl, sym, ap, _∙_}
 use mathlib.Core.Bool.{true, _&&_}

@@ -9,8 +9,7 @@ ghost use Prim.Native.Nat.{_+_, _-_, _*_, _/_, _^_, _≤_};
 ghost use lib.ListN.{length};
 ghost use lib.Seq.{sets};
 ghost use Rattle.octets.specs.Spell.{spelled};
-ghost use Rattle.choices.specs.Choices.{kindOf};
-ghost use Rattle.choices.specs.Operators.{listOctets};
+ghost use Rattle.operators.specs.Ops.{kindOf, listOctets};
 ghost use Rattle.prefixes.specs.Prefixes.{octetsOf};
 ghost use Rattle.prefixwriting.specs.Writings.{frontOctets};
 ghost use Rattle.stored.specs.Stored.{partsFrom};
@@ -104,7 +103,7 @@ fn put_operators(
     if count == 0 {
         return at;
     }
-    let list = choices::kind_of(kind);
+    let list = operators::kind_of(kind);
     listwriting::put_list(list, values, octets, first + start, count, out, at)
 }
 

@@ -1,6 +1,6 @@
 -- Document 01's starred cases, proved of the definitions: each row is a question and what the document says, and the one statement
 -- `cases-hold` says that the definitions give just that in every row; where a row speaks of every packet, it is of any packet whatever.
--- Octets are written as the document prints them, in hex. Assumes nothing.
+-- Octets are written as the document prints them, in hex.
 use Prim.Native.Nat.{ℕ, _^_}
 use mathlib.Core.Path.{_≡_, refl}
 use mathlib.Core.Bool.{Bool, true, false}
@@ -8,8 +8,8 @@ use mathlib.Core.List.{List, [], _∷_, _++_, map}
 use Rattle.ground.specs.Answers.{Answer, accepts, refuses}
 use Rattle.choices.specs.declared.Reading.{Reading}
 use Rattle.choices.specs.declared.Reading.the-variants.{Plain, Ipv4, Ipv6}
-use Rattle.choices.specs.Choices.{kindOf, refusedIn}
-use Rattle.choices.specs.Operators.{Op, op, octetOf, numberOf, opsIn, listOctets}
+use Rattle.choices.specs.Choices.{refusedIn, familyOf}
+use Rattle.operators.specs.Ops.{kindOf, Op, op, octetOf, numberOf, opsIn, listOctets}
 use Rattle.octets.specs.Lengths.{lengthAt, lengthOctets}
 use Rattle.octets.specs.Spell.{spell, spelled}
 use Rattle.rules.specs.declared.NetworkPrefix.the-variants.{Ipv4 as V4, Ipv6Offset}
@@ -29,7 +29,7 @@ use Rattle.measuring.specs.Grounds.{allOperators, pieceTaken, allTaken, inOrder
 use Rattle.satisfying.specs.Lists.{compared, masked, joined, later, groups, all, any, listMatches, dataMatch}
 use Rattle.matching.specs.Cases.{packet, from-to, flagged, to}
 use Rattle.matching.specs.Rules.{componentMatches, ruleMatches}
-use Rattle.reading.specs.Readings.{ReadRule, familyOf, statedAt, readAt, wordsOf, operatorsOf}
+use Rattle.reading.specs.Readings.{ReadRule, statedAt, readAt, wordsOf, operatorsOf}
 use Rattle.writing.specs.Writings.{writtenFrom, writtenIn, writtenRule, answerFor}
 use Rattle.ranking.specs.Ranks.{lower, inTurn, rankBits, rankFront, rankPiece, piecesOf, rankOf}
 use Rattle.verdicts.specs.Verdicts.{wellFormed, matchVerdict}

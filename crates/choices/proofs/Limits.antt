@@ -1,4 +1,4 @@
--- The reserved bits as a bound: an octet is refused exactly where its low four bits reach the limit. Assumes nothing.
+-- The reserved bits as a bound: an octet is refused exactly where its low four bits reach the limit.
 use Prim.Native.Nat.{ℕ, _/_, _%_, _≤_, _<_}
 use mathlib.Core.Path.{_≡_, refl, ap}
 use mathlib.Core.Bool.{Bool, true, false, not}
@@ -6,8 +6,8 @@ use native.Mathlib.Omega.{arith}
 use borrow.Author.Tests.{eq-eqb, ne-eqb}
 use Rattle.choices.specs.declared.Reading.{Reading}
 use Rattle.choices.specs.declared.Reading.the-variants.{Plain, Ipv4, Ipv6}
-use Rattle.choices.specs.declared.Kind.{Kind}
-use Rattle.choices.specs.declared.Kind.the-variants.{Numeric, Bitmask}
+use Rattle.operators.specs.declared.Kind.{Kind}
+use Rattle.operators.specs.declared.Kind.the-variants.{Numeric, Bitmask}
 use Rattle.choices.specs.Choices.{refusedIn, limitOf}
 
 pub is-refused : (r : Reading) (k : Kind) (x : ℕ) → limitOf r k ≤ x % 16 → refusedIn r k x ≡ true

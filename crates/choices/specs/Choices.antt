@@ -8,15 +8,20 @@
 --   clearedIn         (none are set)      recorded as 0       recorded as 0       "ignored and recorded as 0"
 --   firstIn           AND kept            recorded as 0       recorded as 0       "So is AND on a list's first operator"
 --
--- Document 01, "The plain reading" and "The standard reading"; RFC 8955, 4.2.1.1 and 4.2.1.2. Assumes nothing.
+-- Document 01, "The plain reading" and "The standard reading"; RFC 8955, 4.2.1.1 and 4.2.1.2.
 use Prim.Native.Nat.{ℕ, _+_, _*_, _/_, _%_}
-use mathlib.Core.Bool.{Bool, true, false, not}
+use mathlib.Core.List.{[], _∷_}
+use mathlib.Core.Bool.{Bool, false}
 use lib.Dec.{eqb}
+use Rattle.ground.specs.Answers.{Answer, accepts, refuses}
 use Rattle.ground.specs.Picks.{pick}
+use Rattle.refusals.specs.Refusals.{refusal}
+use Rattle.operators.specs.declared.Kind.{Kind}
+use Rattle.operators.specs.Ops.{reservedIn, limitBy}
 use Rattle.choices.specs.declared.Reading.{Reading}
 use Rattle.choices.specs.declared.Reading.the-variants.{Plain, Ipv4, Ipv6}
-use Rattle.choices.specs.declared.Kind.{Kind}
-use Rattle.choices.specs.declared.Kind.the-variants.{Numeric, Bitmask}
+use Rattle.choices.specs.declared.Standard.{Standard}
+use Rattle.choices.specs.declared.Standard.the-variants.{Is, Refused}
 
 abbrev pub boundOf : Reading → ℕ → ℕ → ℕ
 boundOf Plain input stated = input
@@ -28,24 +33,10 @@ lastType Plain = 13
 lastType Ipv4 = 12
 lastType Ipv6 = 13
 
--- "Types 1 and 2 are prefixes, 9 and 12 bitmask lists, the others numeric lists"
-unfoldable pub kindOf : ℕ → Kind
-kindOf type = pick (eqb type 9) Bitmask (pick (eqb type 12) Bitmask Numeric)
-
--- whether a reserved bit is set: 0x08 of a numeric operator, 0x0C of a bitmask operator
-abbrev pub reservedIn : Kind → ℕ → Bool
-reservedIn Numeric octet = eqb (octet / 8 % 2) 1
-reservedIn Bitmask octet = not (eqb (octet / 4 % 4) 0)
-
 unfoldable pub refusedIn : Reading → Kind → ℕ → Bool
 refusedIn Plain kind octet = reservedIn kind octet
 refusedIn Ipv4 kind octet = false
 refusedIn Ipv6 kind octet = false
-
--- the octet with its reserved bits 0
-abbrev pub clearedIn : Kind → ℕ → ℕ
-clearedIn Numeric octet = octet / 16 * 16 + octet % 8
-clearedIn Bitmask octet = octet / 16 * 16 + octet % 4
 
 -- the octet without 0x40, AND, in the standard readings
 abbrev pub firstIn : Reading → ℕ → ℕ
@@ -54,11 +45,21 @@ firstIn Ipv4 octet = octet / 128 * 128 + octet % 64
 firstIn Ipv6 octet = octet / 128 * 128 + octet % 64
 
 -- the reserved bits as a bound on an octet's low four bits: `Limits` in proofs/ has the law
-abbrev pub limitBy : Kind → ℕ
-limitBy Numeric = 8
-limitBy Bitmask = 4
-
 abbrev pub limitOf : Reading → Kind → ℕ
 limitOf Plain kind = limitBy kind
 limitOf Ipv4 kind = 16
 limitOf Ipv6 kind = 16
+
+-- "The standard reading (family 4 or 6 given)"; "BadFamily (not 4 or 6)"
+unfoldable pub standardOf : ℕ → Answer Reading
+standardOf family = pick (eqb family 4) (accepts Ipv4) (pick (eqb family 6) (accepts Ipv6) (refuses 11 (family ∷ [])))
+
+abbrev pub toldStandard : Standard → Answer Reading
+toldStandard (Is reading) = accepts reading
+toldStandard (Refused f) = refusal f
+
+-- the family that a rule bears; 0 is a plain rule
+abbrev pub familyOf : Reading → ℕ
+familyOf Plain = 0
+familyOf Ipv4 = 4
+familyOf Ipv6 = 6

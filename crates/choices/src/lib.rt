@@ -1,19 +1,16 @@
 // The choices by which the three readings part, and what an operator octet is to each. One walk serves all readings: it asks here.
 ghost use mathlib.Core.Path.{_≡_};
 ghost use mathlib.Core.Bool.{Bool};
-ghost use Rattle.choices.specs.Choices.{boundOf, lastType, kindOf, limitOf, clearedIn, firstIn};
+ghost use Rattle.choices.specs.Choices.{boundOf, lastType, limitOf, firstIn, familyOf, standardOf, toldStandard};
+use operators::Kind;
+use refusals::Fault;
+use refusals::FlowSpecError;
 
 // The plain reading follows the Rust; the others follow RFC 8955 (IPv4) and RFC 8956 (IPv6).
 pub enum Reading {
     Plain,
     Ipv4,
     Ipv6,
-}
-
-// What the operators of a list are.
-pub enum Kind {
-    Numeric,
-    Bitmask,
 }
 
 // Where the octets end that the walk sees.
@@ -38,19 +35,6 @@ pub fn last_type(reading: Reading) -> u8
     }
 }
 
-// Of a list component's type, the kind of its operators.
-pub fn kind_of(code: u8) -> Kind
-    ensures { λ r. ⌜ r ≡ kindOf code ⌝ }
-{
-    if code == 9 {
-        return Kind::Bitmask;
-    }
-    if code == 12 {
-        return Kind::Bitmask;
-    }
-    Kind::Numeric
-}
-
 // The reserved bits as a bound, which one test in a loop takes: an octet is refused where its low four bits reach it.
 pub fn limit(reading: Reading, kind: Kind) -> u8
     ensures { λ r. ⌜ r ≡ limitOf reading kind ⌝ }
@@ -65,16 +49,6 @@ pub fn limit(reading: Reading, kind: Kind) -> u8
     }
 }
 
-// An operator octet with its reserved bits 0.
-pub fn cleared(kind: Kind, octet: u8) -> u8
-    ensures { λ r. ⌜ r ≡ clearedIn kind octet ⌝ }
-{
-    match kind {
-        Kind::Numeric => octet / 16 * 16 + octet % 8,
-        Kind::Bitmask => octet / 16 * 16 + octet % 4,
-    }
-}
-
 // The first operator octet of a list, as it is recorded.
 pub fn first(reading: Reading, octet: u8) -> u8
     ensures { λ r. ⌜ r ≡ firstIn reading octet ⌝ }
@@ -83,5 +57,37 @@ pub fn first(reading: Reading, octet: u8) -> u8
         Reading::Plain => octet,
         Reading::Ipv4 => octet / 128 * 128 + octet % 64,
         Reading::Ipv6 => octet / 128 * 128 + octet % 64,
+    }
+}
+
+// The standard reading, or writing, that a family names.
+pub enum Standard {
+    Is(Reading),
+    Refused(Fault),
+}
+
+// Family 4 or 6: this is the one place that says which reading each has.
+pub fn reading_of(family: u8) -> Standard
+    ensures { λ r. ⌜ toldStandard r ≡ standardOf family ⌝ }
+{
+    if family == 4 {
+        return Standard::Is(Reading::Ipv4);
+    }
+    if family == 6 {
+        return Standard::Is(Reading::Ipv6);
+    }
+    Standard::Refused(Fault {
+        error: FlowSpecError::BadFamily(family),
+    })
+}
+
+// The family that a rule bears by each reading, 0 for a plain rule.
+pub fn family_of(reading: Reading) -> u8
+    ensures { λ r. ⌜ r ≡ familyOf reading ⌝ }
+{
+    match reading {
+        Reading::Plain => 0,
+        Reading::Ipv4 => 4,
+        Reading::Ipv6 => 6,
     }
 }

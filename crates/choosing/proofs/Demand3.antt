@@ -10,7 +10,7 @@
 -- and there is no other answer of which this holds (`no-other`), so that "no rule" is said exactly where none matches. In every other case it
 -- refuses, by the first of these that holds: more than 64 rules (12, with their number), a packet out of range (13), a rule that is not
 -- well-formed or words that make no whole rule (10), a rule of another family than the packet's (14, with the first such place): `refuses-..`.
--- `chosenIn` is what the contract of `choosing::choose` cites, and `Decides` is in that contract too. Assumes nothing.
+-- `chosenIn` is what the contract of `choosing::choose` cites, and `Decides` is in that contract too.
 use Prim.Native.Nat.{ℕ, zero, suc, _≤_, _<_}
 use mathlib.Core.Path.{_≡_, refl, sym, ap, _∙_, subst}
 use mathlib.Core.Bool.{Bool, true, false, _&&_, true≢false}
@@ -20,7 +20,7 @@ use native.Mathlib.Omega.{arith}
 use borrow.Author.Tests.{lt-ltb, le-ltb, ltb-false}
 use lib.Dec.{ltb}
 use Rattle.ground.specs.Picks.{pick}
-use Rattle.ground.specs.Answers.{Answer, accepts, refuses}
+use Rattle.ground.specs.Answers.{Answer, accepts, refuses, declines}
 use Rattle.ground.proofs.Cases.{by-test, lt-or-le, both}
 use Rattle.packets.specs.declared.Packet.{Packet}
 use Rattle.packets.specs.Packets.{packetOk}
@@ -113,7 +113,7 @@ accepts-where t p h =
 -- and nowhere else; what it then answers decides
 abbrev code : Answer Choice → ℕ
 code (accepts c) = 1
-code (refuses n ns) = 0
+code (declines f) = 0
 
 no : {A : Type 0} {n : ℕ} {ns : List ℕ} {c : Choice} → _≡_ {A = Answer Choice} (refuses n ns) (accepts c) → A
 no e = let z : _≡_ {A = ℕ} 0 1 = ap (λ (a : Answer Choice). code a) e in absurd (omega arith)
@@ -151,7 +151,7 @@ decides t p c e = accepts-exactly t p c e .decides
 
 decided′ : (t : Table) (p : Packet) (a : Answer Choice) → chosenIn t p ≡ a → Decided t p a
 decided′ t p (accepts c) e = decides t p c e
-decided′ t p (refuses n ns) e = tt
+decided′ t p (declines f) e = tt
 
 pub decided : (t : Table) (p : Packet) (a : Answer Choice) → a ≡ chosenIn t p → Decided t p a
 decided t p a e = decided′ t p a (sym e)

@@ -1,6 +1,6 @@
--- No second answer meets the chooser's contract: an answer can be read back from what is told of it. Assumes nothing.
+-- No second answer meets the chooser's contract: an answer can be read back from what is told of it.
 use mathlib.Core.Path.{_≡_, refl, sym, ap, _∙_}
-use Rattle.ground.specs.Answers.{Answer, accepts, refuses}
+use Rattle.ground.specs.Answers.{Answer, accepts, declines}
 use Rattle.refusals.proofs.Once.{faultOf, fault-back}
 use Rattle.choosing.specs.declared.Chosen.{Chosen}
 use Rattle.choosing.specs.declared.Chosen.the-variants.{Rule, NoRule, Refused}
@@ -9,7 +9,7 @@ use Rattle.choosing.specs.Choosing.{Choice, place, none, toldChosen}
 abbrev chosenOf : Answer Choice → Chosen
 chosenOf (accepts (place i)) = Rule i
 chosenOf (accepts none) = NoRule
-chosenOf (refuses n ns) = Refused (faultOf n ns)
+chosenOf (declines f) = Refused (faultOf (f .number) (f .carried))
 
 chosen-back : (a : Chosen) → chosenOf (toldChosen a) ≡ a
 chosen-back (Rule i) = refl

@@ -1,4 +1,4 @@
--- One step of each pass, and where a pass ends: a choice below a number is told as a place, or the number of rules. Assumes nothing.
+-- One step of each pass, and where a pass ends: a choice below a number is told as a place, or the number of rules.
 use Prim.Native.Nat.{ℕ, zero, suc, _+_, _≤_, _<_}
 use mathlib.Core.Path.{_≡_, refl, sym, ap, _∙_, subst}
 use mathlib.Core.Bool.{Bool, true, false}

@@ -1,4 +1,4 @@
--- What the two passes tell of the answer. Assumes nothing.
+-- What the two passes tell of the answer.
 use Prim.Native.Nat.{ℕ, _*_, _/_, _%_, _≤_, _<_}
 use mathlib.Core.Path.{_≡_, refl, sym, ap, _∙_}
 use mathlib.Core.Bool.{Bool, true, false}

@@ -1,12 +1,12 @@
 -- Which of the stored rules decides on a packet: document 01, "Matching and ranking" and "What comes back"; RFC 8955, 5.1. `Decides` is what
--- a user asks of the answer, and `chosenIn` the answer itself; `Demand3` in proofs/ says that the one is the other. Assumes nothing.
+-- a user asks of the answer, and `chosenIn` the answer itself; `Demand3` in proofs/ says that the one is the other.
 use Prim.Native.Nat.{ℕ, zero, suc, _*_, _/_, _%_, _≤_, _<_}
 use mathlib.Core.Path.{_≡_}
 use mathlib.Core.List.{List, [], _∷_}
 use mathlib.Core.Bool.{Bool, true, false, not, _&&_}
 use lib.ListN.{length}
 use lib.Dec.{ltb, eqb}
-use Rattle.ground.specs.Answers.{Answer, accepts, refuses}
+use Rattle.ground.specs.Answers.{Answer, accepts, refuses, declines}
 use Rattle.ground.specs.Picks.{pick}
 use Rattle.refusals.specs.Refusals.{refusal}
 use Rattle.stored.specs.Stored.{StoredRule, storedAt}
@@ -115,4 +115,4 @@ toldChosen (Refused f) = refusal f
 -- an answer that names no refusal decides
 abbrev pub Decided : Table → Packet → Answer Choice → Type 0
 Decided t p (accepts c) = Decides t p c
-Decided t p (refuses number carried) = Unit {0}
+Decided t p (declines f) = Unit {0}

@@ -1,5 +1,5 @@
 -- What the functions within promise each other: the two passes over a table, a choice being told as a place below the number of rules, or that
--- number where there is none. No promise of an entry point rests on these but through `Choosing`. Assumes nothing.
+-- number where there is none. No promise of an entry point rests on these but through `Choosing`.
 use Prim.Native.Nat.{ℕ, _<_}
 use mathlib.Core.Path.{_≡_}
 use mathlib.Core.Bool.{Bool, true}

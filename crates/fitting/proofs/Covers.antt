@@ -1,4 +1,4 @@
--- What holds of each component that a count covers holds of all. Assumes nothing.
+-- What holds of each component that a count covers holds of all.
 use Prim.Native.Nat.{ℕ, zero, suc, _+_, _≤_, _<_}
 use mathlib.Core.Path.{_≡_, subst}
 use mathlib.Core.List.{List, [], _∷_, map}

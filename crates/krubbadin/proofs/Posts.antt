@@ -1,4 +1,4 @@
--- What a reading or a writing leaves behind, told of the one that a number names. Assumes nothing.
+-- What a reading or a writing leaves behind, told of the one that a number names.
 use mathlib.Core.Path.{_≡_, subst}
 use mathlib.Core.List.{List, map}
 use Prim.Native.Nat.{ℕ}
@@ -6,7 +6,7 @@ use lib.ListN.{length}
 use lib.Seq.{sets}
 use Rattle.ground.specs.Answers.{Answer}
 use Rattle.choices.specs.declared.Reading.{Reading}
-use Rattle.choices.specs.Operators.{octetOf, numberOf}
+use Rattle.operators.specs.Ops.{octetOf, numberOf}
 use Rattle.reading.specs.Readings.{byReading, takenOf, wordsOf, operatorsOf}
 use Rattle.writing.specs.Writings.{counted, octetsIn}
 use Rattle.krubbadin.specs.declared.KrubbadinAnswer.{KrubbadinAnswer}

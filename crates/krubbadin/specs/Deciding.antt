@@ -1,8 +1,8 @@
--- What the exported functions on stored rules answer: the definitions' answers in three numbers. Assumes nothing.
+-- What the exported functions on stored rules answer: the definitions' answers in three numbers.
 use Prim.Native.Nat.{ℕ}
 use mathlib.Core.Bool.{Bool}
 use mathlib.Core.List.{List}
-use Rattle.ground.specs.Answers.{Answer, accepts, refuses}
+use Rattle.ground.specs.Answers.{Answer, accepts, declines}
 use Rattle.operators.specs.Operators.{weightOf}
 use Rattle.ranking.specs.declared.Order.{Order}
 use Rattle.ranking.specs.declared.Order.the-variants.{Precedes, Equal, Follows}
@@ -16,7 +16,7 @@ givenWith first second = record { status = 0; first = first; second = second }
 -- 1 it matches, 0 it does not
 abbrev pub matchAnswer : Answer Bool → KrubbadinAnswer
 matchAnswer (accepts b) = givenWith (weightOf b 1) 0
-matchAnswer (refuses number carried) = refusedWith number carried
+matchAnswer (declines f) = refusedWith (f .number) (f .carried)
 
 -- 1 the first precedes, 2 the second does
 abbrev pub orderNumber : Order → ℕ
@@ -26,10 +26,10 @@ orderNumber Follows = 2
 
 abbrev pub rankAnswer : Answer Order → KrubbadinAnswer
 rankAnswer (accepts o) = givenWith (orderNumber o) 0
-rankAnswer (refuses number carried) = refusedWith number carried
+rankAnswer (declines f) = refusedWith (f .number) (f .carried)
 
 -- 1 and the place of the rule that decides; 0 where none matches
 abbrev pub choiceAnswer : Answer Choice → KrubbadinAnswer
 choiceAnswer (accepts (place i)) = givenWith 1 i
 choiceAnswer (accepts none) = givenWith 0 0
-choiceAnswer (refuses number carried) = refusedWith number carried
+choiceAnswer (declines f) = refusedWith (f .number) (f .carried)

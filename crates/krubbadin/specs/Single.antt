@@ -1,11 +1,11 @@
 -- One operator by itself, in numbers: what the operators' definitions say (`operators`), 1 where a flag is set. A width that is none of the
--- four, a flag that is neither 0 nor 1 and bits that the kind does not have are BadRecord. Assumes nothing.
+-- four, a flag that is neither 0 nor 1 and bits that the kind does not have are BadRecord.
 use Prim.Native.Nat.{ℕ, _+_}
 use mathlib.Core.Bool.{Bool, true, false, _&&_}
 use mathlib.Core.List.{List, []}
 use lib.ListN.{getD}
 use lib.Dec.{eqb, leb}
-use Rattle.ground.specs.Answers.{Answer, accepts, refuses}
+use Rattle.ground.specs.Answers.{Answer, accepts, refuses, declines}
 use Rattle.ground.specs.Picks.{pick}
 use Rattle.operators.specs.declared.NumericOperator.{NumericOperator}
 use Rattle.operators.specs.declared.BitmaskOperator.{BitmaskOperator}
@@ -40,11 +40,11 @@ noOperator number carried = numbers number (getD carried 0 0) false false 0 0 0
 
 abbrev pub numericAnswer : Answer NumericOperator → KrubbadinOperator
 numericAnswer (accepts o) = numericNumbers o
-numericAnswer (refuses number carried) = noOperator number carried
+numericAnswer (declines f) = noOperator (f .number) (f .carried)
 
 abbrev pub bitmaskAnswer : Answer BitmaskOperator → KrubbadinOperator
 bitmaskAnswer (accepts o) = bitmaskNumbers o
-bitmaskAnswer (refuses number carried) = noOperator number carried
+bitmaskAnswer (declines f) = noOperator (f .number) (f .carried)
 
 unfoldable pub operatorRead : ℕ → ℕ → ℕ → KrubbadinOperator
 operatorRead bitmask octet value = pick (eqb bitmask 0) (numericAnswer (numericFrom octet value)) (bitmaskAnswer (bitmaskFrom octet value))
@@ -53,7 +53,7 @@ operatorRead bitmask octet value = pick (eqb bitmask 0) (numericAnswer (numericF
 
 abbrev pub octetAnswer : Answer ℕ → KrubbadinAnswer
 octetAnswer (accepts octet) = record { status = 0; first = octet; second = 0 }
-octetAnswer (refuses number carried) = refusedWith number carried
+octetAnswer (declines f) = refusedWith (f .number) (f .carried)
 
 abbrev pub mostFlags : ℕ → ℕ
 mostFlags bitmask = pick (eqb bitmask 0) 7 3

@@ -1,15 +1,16 @@
 -- What the exported functions answer: the definitions' answers in three numbers. A refusal's number is 1 or more and it carries at most two
--- numbers, so nothing is lost. Assumes nothing.
+-- numbers, so nothing is lost.
 use Prim.Native.Nat.{ℕ}
 use mathlib.Core.List.{List}
 use lib.ListN.{getD}
-use Rattle.ground.specs.Answers.{Answer, accepts, refuses}
+use Rattle.ground.specs.Answers.{Answer, accepts, declines}
 use lib.Dec.{eqb}
 use Rattle.ground.specs.Picks.{pick}
 use Rattle.refusals.specs.Refusals.{refusal}
 use Rattle.choices.specs.declared.Reading.{Reading}
 use Rattle.choices.specs.declared.Reading.the-variants.{Plain}
-use Rattle.reading.specs.Readings.{Taken, standardOf}
+use Rattle.reading.specs.Readings.{Taken}
+use Rattle.choices.specs.Choices.{standardOf}
 use Rattle.krubbadin.specs.declared.Which.{Which}
 use Rattle.krubbadin.specs.declared.Which.the-variants.{Is, Refused}
 use Rattle.writing.specs.Writings.{writtenFrom}
@@ -21,7 +22,7 @@ refusedWith number carried = record { status = number; first = getD carried 0 0;
 -- a reading: the octets used and the operators
 abbrev pub readAnswer : Answer Taken → KrubbadinAnswer
 readAnswer (accepts t) = record { status = 0; first = t .used; second = t .operators }
-readAnswer (refuses number carried) = refusedWith number carried
+readAnswer (declines f) = refusedWith (f .number) (f .carried)
 
 -- what a call asks for: 0 is the plain reading, any other number the standard one in the family that is given, 4 or 6, else BadFamily
 unfoldable pub whichOf : ℕ → ℕ → Answer Reading
@@ -34,8 +35,8 @@ toldWhich (Refused f) = refusal f
 -- a writing: the octets written
 abbrev pub writtenAnswer : Answer ℕ → KrubbadinAnswer
 writtenAnswer (accepts n) = record { status = 0; first = n; second = 0 }
-writtenAnswer (refuses number carried) = refusedWith number carried
+writtenAnswer (declines f) = refusedWith (f .number) (f .carried)
 
 abbrev pub byWriting : Answer Reading → List ℕ → List ℕ → List ℕ → ℕ → Answer (List ℕ)
 byWriting (accepts writing) words values octets room = writtenFrom writing words values octets room
-byWriting (refuses number carried) words values octets room = refuses number carried
+byWriting (declines f) words values octets room = declines f

@@ -4,7 +4,7 @@ ghost use mathlib.Core.Path.{_≡_};
 ghost use mathlib.Core.List.{map};
 ghost use lib.ListN.{length};
 ghost use lib.Seq.{sets};
-ghost use Rattle.choices.specs.Operators.{octetOf, numberOf};
+ghost use Rattle.operators.specs.Ops.{octetOf, numberOf};
 ghost use Rattle.refusals.specs.Refusals.{numberOf as errorNumber, carriedOf};
 ghost use Rattle.reading.specs.Readings.{toldInto, byReading, takenOf, wordsOf, operatorsOf};
 ghost use Rattle.writing.specs.Writings.{toldWritten, counted, octetsIn};

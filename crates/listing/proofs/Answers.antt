@@ -1,5 +1,5 @@
 -- What `list` has of an input once it is read: a rule that can be listed, whose lines are the listing, however far the lent lists go on with zeros
--- past its operators. And what it answers then. Assumes nothing.
+-- past its operators. And what it answers then.
 use Prim.Native.Nat.{ℕ, zero, suc, _+_, _≤_, _<_}
 use mathlib.Core.Path.{_≡_, refl, sym, ap, ap₂, _∙_, subst}
 use mathlib.Core.List.{List, [], _∷_, _++_, map}
@@ -9,11 +9,11 @@ use borrow.Author.Tests.{lt-ltb, le-ltb}
 use lib.ListN.{length, getD, set, take, replicate, length-map, length-replicate}
 use lib.Seq.{sets, length-sets, length-take-le}
 use Rattle.ground.proofs.Answers.{never}
-use Rattle.ground.specs.Answers.{Answer, accepts, refuses}
+use Rattle.ground.specs.Answers.{Answer, accepts, refuses, declines}
 use Rattle.ground.proofs.Cases.{lt-or-le}
 use Rattle.refusals.specs.declared.Fault.{Fault}
 use Rattle.choices.specs.declared.Reading.the-variants.{Ipv4}
-use Rattle.choices.specs.Operators.{Op, opsIn, octetOf, numberOf}
+use Rattle.operators.specs.Ops.{Op, opsIn, octetOf, numberOf}
 use Rattle.octets.specs.Lengths.{lengthAt}
 use Rattle.rules.specs.declared.FlowSpecComponent.{FlowSpecComponent}
 use Rattle.rules.specs.declared.FlowSpecNlri.{FlowSpecNlri}
@@ -106,14 +106,14 @@ whole-of s o (accepts r) e =
       most = omega (arith, g .few);
       within = subst (AllWithin 2047 2047) (sym i) (all-more f f (r .components) (l .named));
     }
-whole-of s o (refuses n c) e = record { counted = refl; most = omega arith; within = λ i. tt }
+whole-of s o (declines f) e = record { counted = refl; most = omega arith; within = λ i. tt }
 
 counts-of : (s : List ℕ) (a : Answer ReadRule) → listedAt s ≡ a → allCounts (componentsOf (nlriOf a)) ≤ 2047
 counts-of s (accepts r) e =
     let h = accepted s r e in
     let l = listable s r (h .0) (h .1) in
     rw (covered-slots (r .components), l .total) (l .few)
-counts-of s (refuses n c) e = omega arith
+counts-of s (declines f) e = omega arith
 
 lines-of : (s : List ℕ) (a : Answer ReadRule) → listedAt s ≡ a
     → linesOf (takenOf a) (componentsOf (nlriOf a)) (sets (blank 2047) 0 (map numberOf (operatorsOf a))) (sets (blank 2047) 0 (map octetOf (operatorsOf a))) ≡ answerLines a
@@ -124,7 +124,7 @@ lines-of s (accepts r) e =
     let os = map octetOf (r .operators) in
     rw (covered-slots (r .components))
     (rule-same (sets (blank 2047) 0 vs) vs (sets (blank 2047) 0 os) os (padded 2047 vs (simp length-map f)) (padded 2047 os (simp length-map f)) (r .used) (r .components))
-lines-of s (refuses n c) e = refl
+lines-of s (declines f) e = refl
 
 pub record Given (s : List ℕ) (read : ReadInto) (rule : FlowSpecNlri) (values octets : List ℕ) : Type 0 where
   pub whole : Whole rule (length values) (length octets)

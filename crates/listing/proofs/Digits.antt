@@ -1,4 +1,4 @@
--- The turns of the loop that puts a number in decimal: the power is one of ten, and the digits from it down are left to put. Assumes nothing.
+-- The turns of the loop that puts a number in decimal: the power is one of ten, and the digits from it down are left to put.
 use Prim.Native.Nat.{ℕ, zero, suc, _+_, _/_, _%_, _^_, _≤_, _<_}
 use mathlib.Core.Path.{_≡_, refl, sym, ap, _∙_, subst}
 use mathlib.Core.List.{List, [], _∷_, _++_}

@@ -1,5 +1,4 @@
 -- The turns of the loops that put lines: with the lines that are left put, the output is as it shall be. And what a refusal carries, by how much it is.
--- Assumes nothing.
 use Prim.Native.Nat.{ℕ, suc, _+_, _-_, _≤_, _<_}
 use mathlib.Core.Path.{_≡_, refl, sym, ap, ap₂, _∙_, subst}
 use mathlib.Core.List.{List, [], _∷_, _++_}
@@ -7,7 +6,7 @@ use native.Mathlib.Omega.{arith}
 use native.Mathlib.Numerals.{add-one}
 use lib.ListN.{length, getD, drop, drop-of-length-le}
 use lib.Seq.{drop-cons}
-use Rattle.choices.specs.Operators.{op, opsIn}
+use Rattle.operators.specs.Ops.{op, opsIn}
 use Rattle.refusals.specs.declared.FlowSpecError.{FlowSpecError}
 use Rattle.refusals.specs.declared.FlowSpecError.the-variants.{InsufficientData, InvalidComponentOrder, InvalidComponentType, InvalidPrefix, InvalidOperator, InvalidValueLength, ValueTooLarge, InputTooLong, NoRoom, BadRecord, BadFamily, TooManyRules, BadPacket, MixedFamily}
 use Rattle.refusals.specs.Refusals.{carriedOf}

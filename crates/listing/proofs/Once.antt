@@ -1,8 +1,7 @@
 -- No second answer meets a contract here: an answer can be read back from what is told of it, and the output afterwards is stated whole.
--- Assumes nothing.
 use Prim.Native.Nat.{ℕ}
 use mathlib.Core.Path.{_≡_, refl, sym, _∙_, ap}
-use Rattle.ground.specs.Answers.{Answer, accepts, refuses}
+use Rattle.ground.specs.Answers.{Answer, accepts, declines}
 use Rattle.refusals.proofs.Once.{faultOf, fault-back}
 use Rattle.listing.specs.declared.Listed.{Listed}
 use Rattle.listing.specs.declared.Listed.the-variants.{Octets, Refused}
@@ -10,7 +9,7 @@ use Rattle.listing.specs.Listings.{toldListed}
 
 abbrev listedOf : Answer ℕ → Listed
 listedOf (accepts n) = Octets n
-listedOf (refuses n ns) = Refused (faultOf n ns)
+listedOf (declines f) = Refused (faultOf (f .number) (f .carried))
 
 listed-back : (a : Listed) → listedOf (toldListed a) ≡ a
 listed-back (Octets n) = refl

@@ -1,4 +1,4 @@
--- The reading of an input as flowlist lists it: with room for 2,047 operators it is never short of room. Assumes nothing.
+-- The reading of an input as flowlist lists it: with room for 2,047 operators it is never short of room.
 use Prim.Native.Nat.{ℕ, _≤_, _<_}
 use mathlib.Core.Path.{_≡_, refl, sym, _∙_}
 use mathlib.Core.List.{List, [], _∷_}
@@ -6,7 +6,7 @@ use native.Mathlib.Omega.{arith}
 use borrow.Author.Tests.{lt-ltb, le-ltb}
 use lib.Dec.{leb}
 use lib.ListN.{length}
-use Rattle.ground.specs.Answers.{Answer, accepts, refuses}
+use Rattle.ground.specs.Answers.{Answer, accepts, refuses, declines}
 use Rattle.ground.proofs.Cases.{by-test}
 use Rattle.choices.specs.declared.Reading.the-variants.{Ipv4}
 use Rattle.reading.specs.Readings.{ReadRule, readAt, shorter, roomed, readInto}
@@ -29,7 +29,7 @@ roomy s w v o l h i j (accepts r) e =
     let f = listable s r l e .few in
     let k = shorter-least (length (r .operators)) v o (omega arith) (omega arith) in
     rw (le-ltb w 64 h, le-ltb (shorter v o) (length (r .operators)) k)
-roomy s w v o l h i j (refuses n c) e = refl
+roomy s w v o l h i j (declines f) e = refl
 
 pub as-read : (s : List ℕ) (w v o : ℕ) → length s ≤ 4097 → 64 ≤ w → 2047 ≤ v → 2047 ≤ o → readInto Ipv4 s w v o ≡ listedAt s
 unfolding readInto

@@ -1,5 +1,4 @@
 -- How long a listing may be: a decimal has 20 digits at most, so the line of an operator has 27 octets, and all other lines of a component 138.
--- Assumes nothing.
 use Prim.Native.Nat.{ℕ, zero, suc, _+_, _*_, _/_, _%_, _^_, _≤_}
 use mathlib.Core.Bool.{Bool, true, false}
 use mathlib.Core.List.{List, [], _∷_, _++_}
@@ -9,7 +8,7 @@ use lib.ListN.{length, getD, length-append}
 use Rattle.ground.specs.Picks.{pick}
 use Rattle.refusals.specs.declared.Fault.{Fault}
 use Rattle.refusals.specs.Refusals.{numberOf, carriedOf}
-use Rattle.choices.specs.Operators.{Op, op, opsIn}
+use Rattle.operators.specs.Ops.{Op, op, opsIn}
 use Rattle.rules.specs.declared.NetworkPrefix.{NetworkPrefix}
 use Rattle.rules.specs.declared.NetworkPrefix.the-variants.{Ipv4, Ipv6, Ipv4Offset, Ipv6Offset}
 use Rattle.rules.specs.declared.FlowSpecComponent.{FlowSpecComponent}

@@ -1,5 +1,5 @@
 -- Where the lists of a rule that was read find their operators: each names places below their number, and there are 2,047 at most. By induction over the
--- chain of components: a list takes the next places, and an operator two octets or more. Assumes nothing.
+-- chain of components: a list takes the next places, and an operator two octets or more.
 use Prim.Native.Nat.{ℕ, zero, suc, _+_, _*_, _≤_}
 use mathlib.Core.Path.{_≡_, refl, sym, _∙_, ap, subst}
 use mathlib.Core.List.{List, [], _∷_}
@@ -8,14 +8,14 @@ use native.Mathlib.Omega.{arith}
 use lib.Dec.{ltb, leb, eqb}
 use lib.ListN.{length, getD, length-append, length-take, length-drop}
 use Rattle.ground.proofs.Answers.{never}
-use Rattle.ground.specs.Answers.{Answer, accepts, refuses}
+use Rattle.ground.specs.Answers.{Answer, accepts, declines}
 use Rattle.ground.proofs.Cases.{by-test, lt-or-le}
 use Rattle.octets.specs.declared.Length.{Length}
 use Rattle.octets.specs.Lengths.{lengthAt}
 use Rattle.choices.specs.declared.Reading.{Reading}
 use Rattle.choices.specs.declared.Reading.the-variants.{Ipv4}
-use Rattle.choices.specs.declared.Kind.{Kind}
-use Rattle.choices.specs.Choices.{kindOf}
+use Rattle.operators.specs.declared.Kind.{Kind}
+use Rattle.operators.specs.Ops.{kindOf}
 use Rattle.rules.specs.declared.NetworkPrefix.{NetworkPrefix}
 use Rattle.rules.specs.declared.FlowSpecComponent.{FlowSpecComponent}
 use Rattle.rules.specs.declared.FlowSpecComponent.the-variants.{Nothing}
@@ -78,7 +78,7 @@ by-prefix : (r : Reading) (t : ℕ) (s : List ℕ) (at start : ℕ) {q : Piece} 
 by-prefix r t s at start (accepts p) i e =
     let h = prefix-next r s at p i in
     subst (Spanned at start) (taken e) (record { named = prefix-apart (start + 0) t (p .prefix); count = prefix-count t (p .prefix); long = omega arith })
-by-prefix r t s at start (refuses n c) i e = never e
+by-prefix r t s at start (declines f) i e = never e
 
 by-list : (r : Reading) (k : Kind) (t : ℕ) (s : List ℕ) (at start : ℕ) {q : Piece} → 3 ≤ t → t ≤ 13 → (a : Answer Tally) → listAt r k s at ≡ a
     → listPiece t start (recordedOps r k (opsAt s at)) a ≡ accepts q → Spanned at start q
@@ -88,7 +88,7 @@ by-list r k t s at start l m (accepts x) i e =
     let w : Within (start + length (recordedOps r k (opsAt s at))) (start + length (recordedOps r k (opsAt s at))) (Operators t start (x .count)) = (omega arith, omega arith) in
     let u = list-piece (record { start = start; count = x .count }) t l m in
     subst (Spanned at start) (taken e) (record { named = rw u w; count = ap countIn u ∙ sym n; long = omega arith })
-by-list r k t s at start l m (refuses n c) i e = never e
+by-list r k t s at start l m (declines f) i e = never e
 
 typed-spanned : (r : Reading) (t : ℕ) (s : List ℕ) (at start : ℕ) {p : Piece} → t ≤ 13 → typedAt r t s at start ≡ accepts p → Spanned at start p
 typed-spanned r t s at start m e =

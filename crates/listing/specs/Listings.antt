@@ -1,14 +1,13 @@
 -- What flowlist prints: document 01, "The program flowlist reads standard input by the IPv4 reading". Each line ends in a newline, the last too.
--- Assumes nothing.
 use Prim.Native.Nat.{ℕ}
 use mathlib.Core.List.{List, [], _∷_, _++_, map}
 use lib.Dec.{ltb}
 use lib.ListN.{length}
-use Rattle.ground.specs.Answers.{Answer, accepts, refuses}
+use Rattle.ground.specs.Answers.{Answer, accepts, refuses, declines}
 use Rattle.ground.specs.Picks.{pick}
 use Rattle.refusals.specs.Refusals.{refusal}
 use Rattle.choices.specs.declared.Reading.the-variants.{Ipv4}
-use Rattle.choices.specs.Operators.{Op, octetOf, numberOf, opsIn}
+use Rattle.operators.specs.Ops.{Op, octetOf, numberOf, opsIn}
 use Rattle.rules.specs.declared.NetworkPrefix.{NetworkPrefix}
 use Rattle.rules.specs.declared.NetworkPrefix.the-variants.{Ipv4 as V4, Ipv6 as V6, Ipv4Offset, Ipv6Offset}
 use Rattle.rules.specs.declared.FlowSpecComponent.{FlowSpecComponent}
@@ -81,7 +80,7 @@ refusalLines number carried = readingLine ++ statusLine number ++ detailLine car
 
 abbrev pub answerLines : Answer ReadRule → List ℕ
 answerLines (accepts r) = ruleLines (r .used) (r .components) (map numberOf (r .operators)) (map octetOf (r .operators))
-answerLines (refuses number carried) = refusalLines number carried
+answerLines (declines f) = refusalLines (f .number) (f .carried)
 
 -- "Over 4,097 octets of input prints status 8 with detail 4098, since it stops reading there"
 unfoldable pub listedAt : List ℕ → Answer ReadRule
@@ -97,12 +96,12 @@ listedInto s room = pick (ltb room (length (listingOf s))) (refuses 9 (length (l
 
 abbrev pub countedIn : Answer (List ℕ) → Answer ℕ
 countedIn (accepts xs) = accepts (length xs)
-countedIn (refuses number carried) = refuses number carried
+countedIn (declines f) = declines f
 
 -- "A refusal changes no lent octet or place"
 abbrev pub octetsIn : Answer (List ℕ) → List ℕ
 octetsIn (accepts xs) = xs
-octetsIn (refuses number carried) = []
+octetsIn (declines f) = []
 
 abbrev pub toldListed : Listed → Answer ℕ
 toldListed (Octets n) = accepts n

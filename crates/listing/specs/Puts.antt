@@ -1,10 +1,10 @@
--- What the functions that put a text promise each other. No promise of an entry point rests on these but through `Listings`. Assumes nothing.
+-- What the functions that put a text promise each other. No promise of an entry point rests on these but through `Listings`.
 use Prim.Native.Nat.{ℕ, _+_, _≤_}
 use mathlib.Core.Path.{_≡_}
 use mathlib.Core.List.{List, []}
 use lib.ListN.{length, getD}
 use lib.Seq.{sets}
-use Rattle.ground.specs.Answers.{Answer, accepts, refuses}
+use Rattle.ground.specs.Answers.{Answer, accepts, declines}
 use Rattle.rules.specs.declared.FlowSpecComponent.{FlowSpecComponent}
 use Rattle.rules.specs.declared.FlowSpecComponent.the-variants.{Nothing}
 use Rattle.rules.specs.declared.FlowSpecNlri.{FlowSpecNlri}
@@ -42,4 +42,4 @@ pub record Whole (rule : FlowSpecNlri) (values octets : ℕ) : Type 0 where
 -- the lines of an answer as the code has it, with the rule that came beside it
 abbrev pub linesOf : Answer Taken → List FlowSpecComponent → List ℕ → List ℕ → List ℕ
 linesOf (accepts t) cs values octets = ruleLines (t .used) cs values octets
-linesOf (refuses number carried) cs values octets = refusalLines number carried
+linesOf (declines f) cs values octets = refusalLines (f .number) (f .carried)

@@ -1,5 +1,5 @@
 -- What an accepted list is, by induction over the steps that read it: it has as many operators as its count says, at least one, each of two
--- octets or more, and ends within the octets; and a reading that refuses nothing accepts it too. Assumes nothing.
+-- octets or more, and ends within the octets; and a reading that refuses nothing accepts it too.
 use Prim.Native.Nat.{ℕ, zero, suc, _+_, _*_, _-_, _≤_, _<_}
 use mathlib.Core.Path.{_≡_, refl, ap}
 use mathlib.Core.Bool.{Bool, true, false}
@@ -11,9 +11,9 @@ use Rattle.ground.specs.Answers.{Answer, accepts, refuses}
 use Rattle.ground.specs.Picks.{pick}
 use Rattle.choices.specs.declared.Reading.{Reading}
 use Rattle.choices.specs.declared.Reading.the-variants.{Ipv4}
-use Rattle.choices.specs.declared.Kind.{Kind}
+use Rattle.operators.specs.declared.Kind.{Kind}
 use Rattle.choices.specs.Choices.{refusedIn}
-use Rattle.choices.specs.Operators.{Op, op}
+use Rattle.operators.specs.Ops.{Op, op}
 use Rattle.lists.specs.declared.Tally.{Tally}
 use Rattle.lists.specs.Lists.{tally, Step, operator, missing, stepAt, turn, listFrom, listAt, opsTurn, opsFrom, opsAt}
 use Rattle.lists.proofs.Steps.{op-next}

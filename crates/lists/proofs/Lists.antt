@@ -1,4 +1,4 @@
--- Laws of a list's reading: what is left after n operators, `rest`, goes by what the next step finds. Assumes nothing.
+-- Laws of a list's reading: what is left after n operators, `rest`, goes by what the next step finds.
 use Prim.Native.Nat.{ℕ, zero, suc, _+_, _-_, _≤_, _<_}
 use mathlib.Core.Path.{_≡_, refl, _∙_, ap}
 use mathlib.Core.Bool.{true, false}
@@ -8,7 +8,7 @@ use native.Mathlib.Omega.{arith}
 use lib.ListN.{length}
 use Rattle.ground.specs.Answers.{accepts, refuses}
 use Rattle.choices.specs.declared.Reading.{Reading}
-use Rattle.choices.specs.declared.Kind.{Kind}
+use Rattle.operators.specs.declared.Kind.{Kind}
 use Rattle.choices.specs.Choices.{refusedIn}
 use Rattle.lists.specs.Lists.{tally, operator, missing, stepAt, turn, listFrom, listAt}
 use Rattle.lists.specs.Runs.{rest}

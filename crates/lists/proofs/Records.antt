@@ -1,5 +1,5 @@
 -- What is recorded of a list: in the plain reading the operators as they stand, since an accepted octet has no reserved bit to clear; in
--- every reading as many operators with the same numbers. Assumes nothing.
+-- every reading as many operators with the same numbers.
 use Prim.Native.Nat.{ℕ, zero, suc, _+_, _/_, _%_}
 use mathlib.Core.Path.{_≡_, refl, sym, _∙_, ap, ap₂}
 use mathlib.Core.Bool.{Bool, true, false, not}
@@ -12,10 +12,10 @@ use Rattle.ground.specs.Answers.{Answer, accepts}
 use Rattle.ground.specs.Picks.{pick}
 use Rattle.choices.specs.declared.Reading.{Reading}
 use Rattle.choices.specs.declared.Reading.the-variants.{Plain}
-use Rattle.choices.specs.declared.Kind.{Kind}
-use Rattle.choices.specs.declared.Kind.the-variants.{Numeric, Bitmask}
-use Rattle.choices.specs.Choices.{refusedIn, clearedIn}
-use Rattle.choices.specs.Operators.{Op, op, numberOf}
+use Rattle.operators.specs.declared.Kind.{Kind}
+use Rattle.operators.specs.declared.Kind.the-variants.{Numeric, Bitmask}
+use Rattle.choices.specs.Choices.{refusedIn}
+use Rattle.operators.specs.Ops.{clearedIn, Op, op, numberOf}
 use Rattle.lists.specs.declared.Tally.{Tally}
 use Rattle.lists.specs.Lists.{Step, operator, missing, stepAt, turn, listFrom, listAt, opsTurn, opsFrom, opsAt, clearedOp, recordedOps}
 use Rattle.lists.proofs.Ends.{Turned, at-last, at-more, turned}

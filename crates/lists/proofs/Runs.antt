@@ -1,4 +1,4 @@
--- The law of a run: an ordinary operator of the run's width is one step. Assumes nothing.
+-- The law of a run: an ordinary operator of the run's width is one step.
 use Prim.Native.Nat.{ℕ, _+_, _/_, _%_, _<_}
 use mathlib.Core.Path.{_≡_, refl, sym, _∙_, ap}
 use mathlib.Core.List.{List}

@@ -1,4 +1,4 @@
--- Laws of one step, over plain lists and numbers: the three ways that `stepAt` goes, and where it goes on. Assumes nothing.
+-- Laws of one step, over plain lists and numbers: the three ways that `stepAt` goes, and where it goes on.
 use Prim.Native.Nat.{ℕ, _+_, _-_, _≤_, _<_}
 use mathlib.Core.Path.{_≡_, refl, sym, _∙_}
 use mathlib.Core.List.{List}

@@ -1,4 +1,4 @@
--- The turns of the fill, over plain lists: one operator stored is one fewer to store. Assumes nothing.
+-- The turns of the fill, over plain lists: one operator stored is one fewer to store.
 use Prim.Native.Nat.{ℕ, suc, _+_, _-_, _≤_, _<_}
 use mathlib.Core.Path.{_≡_, refl, sym, _∙_, ap}
 use mathlib.Core.Bool.{true, false}
@@ -10,16 +10,16 @@ use native.Mathlib.Decide.{decLe, decLt}
 use lib.ListN.{length, getD, take, drop, set, length-set}
 use lib.Seq.{sets}
 use lib.Dec.{leb}
-use Rattle.ground.specs.Answers.{Answer, accepts, refuses}
+use Rattle.ground.specs.Answers.{Answer, accepts, declines}
 use Rattle.ground.specs.Picks.{pick}
 use Rattle.ground.proofs.Cases.{by-cases}
 use Rattle.octets.specs.Widths.{widthOf}
 use Rattle.octets.specs.Spell.{valueOf}
 use Rattle.choices.specs.declared.Reading.{Reading}
 use Rattle.choices.specs.declared.Reading.the-variants.{Ipv4}
-use Rattle.choices.specs.declared.Kind.{Kind}
-use Rattle.choices.specs.Choices.{refusedIn, clearedIn, firstIn}
-use Rattle.choices.specs.Operators.{Op, op, octetOf, numberOf}
+use Rattle.operators.specs.declared.Kind.{Kind}
+use Rattle.choices.specs.Choices.{refusedIn, firstIn}
+use Rattle.operators.specs.Ops.{clearedIn, Op, op, octetOf, numberOf}
 use Rattle.lists.specs.declared.Tally.{Tally}
 use Rattle.lists.specs.Lists.{tally, operator, missing, stepAt, listAt, isAccepted, Accepted, opsFrom, opsAt, clearedOp, recordedOps}
 use Rattle.lists.specs.Runs.{Room, ends, left, Filling, Filled}
@@ -154,7 +154,7 @@ module _ {k : Kind} {s : List ℕ} {start : ℕ} {vs₀ os₀ : List ℕ} {at₀
 
 pub with-tally : {A : Type 0} (a : Answer Tally) → isAccepted a ≡ true → ((t : Tally) → a ≡ accepts t → A) → A
 with-tally (accepts t) e f = f t refl
-with-tally (refuses n c) e f = let z : _≡_ {A = ℕ} 0 1 = cc in absurd (omega arith)
+with-tally (declines g) e f = let z : _≡_ {A = ℕ} 0 1 = cc in absurd (omega arith)
 
 -- the first operator of an accepted list
 module _ (r : Reading) (k : Kind) (s : List ℕ) (at : ℕ) (accepted : Accepted r k s at) where

@@ -1,20 +1,20 @@
 -- A list of operators: what stands at a place, how far a list goes or why it is refused, and what a reading records of it. Document 01,
--- "The length and the component walk", "The plain reading", "The standard reading"; RFC 8955, 4.2.1.1 and 4.2.1.2. Assumes nothing.
+-- "The length and the component walk", "The plain reading", "The standard reading"; RFC 8955, 4.2.1.1 and 4.2.1.2.
 use Prim.Native.Nat.{ℕ, zero, suc, _+_, _-_}
 use mathlib.Core.Path.{_≡_}
 use mathlib.Core.Bool.{Bool, true, false}
 use mathlib.Core.List.{List, [], _∷_, map}
 use lib.ListN.{length, getD, take, drop}
 use lib.Dec.{ltb, leb}
-use Rattle.ground.specs.Answers.{Answer, accepts, refuses}
+use Rattle.ground.specs.Answers.{Answer, accepts, refuses, declines}
 use Rattle.ground.specs.Picks.{pick}
 use Rattle.refusals.specs.Refusals.{refusal}
 use Rattle.octets.specs.Widths.{widthOf}
 use Rattle.octets.specs.Spell.{valueOf}
 use Rattle.choices.specs.declared.Reading.{Reading}
-use Rattle.choices.specs.declared.Kind.{Kind}
-use Rattle.choices.specs.Choices.{refusedIn, clearedIn, firstIn}
-use Rattle.choices.specs.Operators.{Op, op}
+use Rattle.operators.specs.declared.Kind.{Kind}
+use Rattle.choices.specs.Choices.{refusedIn, firstIn}
+use Rattle.operators.specs.Ops.{clearedIn, Op, op}
 use Rattle.lists.specs.declared.Tally.{Tally}
 use Rattle.lists.specs.declared.Listed.{Listed}
 use Rattle.lists.specs.declared.Listed.the-variants.{Done, Refused}
@@ -58,7 +58,7 @@ listAt reading kind s at = listFrom reading kind (length s) s at 0
 
 abbrev pub isAccepted : Answer Tally → Bool
 isAccepted (accepts t) = true
-isAccepted (refuses number carried) = false
+isAccepted (declines f) = false
 
 abbrev pub Accepted : Reading → Kind → List ℕ → ℕ → Type 0
 Accepted reading kind s at = isAccepted (listAt reading kind s at) ≡ true

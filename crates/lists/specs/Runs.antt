@@ -1,5 +1,5 @@
 -- What the loops promise each other: where a run stands within its list. No public promise of a reading rests on these but through
--- `Lists`. Assumes nothing.
+-- `Lists`.
 use Prim.Native.Nat.{ℕ, _+_, _-_, _≤_}
 use mathlib.Core.Path.{_≡_}
 use mathlib.Core.Bool.{true}
@@ -9,9 +9,9 @@ use lib.Seq.{sets}
 use Rattle.ground.specs.Answers.{Answer}
 use Rattle.choices.specs.declared.Reading.{Reading}
 use Rattle.choices.specs.declared.Reading.the-variants.{Ipv4}
-use Rattle.choices.specs.declared.Kind.{Kind}
+use Rattle.operators.specs.declared.Kind.{Kind}
 use Rattle.choices.specs.Choices.{limitOf}
-use Rattle.choices.specs.Operators.{Op, octetOf, numberOf}
+use Rattle.operators.specs.Ops.{Op, octetOf, numberOf}
 use Rattle.lists.specs.declared.Tally.{Tally}
 use Rattle.lists.specs.Lists.{listFrom, isAccepted, opsFrom, clearedOp}
 

@@ -8,12 +8,12 @@ ghost use lib.ListN.{length, getD};
 ghost use lib.Seq.{sets};
 ghost use Rattle.ground.specs.Answers.{accepts};
 ghost use Rattle.octets.specs.Widths.{widths};
-ghost use Rattle.choices.specs.Operators.{octetOf, numberOf};
+ghost use Rattle.operators.specs.Ops.{octetOf, numberOf};
 ghost use Rattle.lists.specs.Lists.{toldList, listAt, opsAt, recordedOps, Accepted};
 ghost use Rattle.lists.specs.Runs.{Begun, Ran, Room, Filling, Filled, left, ends};
-use choices::Kind;
 use choices::Reading;
 use octets::Cursor;
+use operators::Kind;
 use refusals::Fault;
 use refusals::FlowSpecError;
 
@@ -144,7 +144,7 @@ fn fill_run(
         }
         let p = start + c;
         values[p] = octets::read_value(s, i + 1, code);
-        octets[p] = choices::cleared(kind, octet);
+        octets[p] = operators::cleared(kind, octet);
         c += 1;
         i = i + w + 1;
     }
@@ -202,7 +202,7 @@ fn fill_on(
         let w = octets::stride(width);
         let p = start + c;
         values[p] = octets::read_value(s, i + 1, width);
-        octets[p] = choices::cleared(kind, octet);
+        octets[p] = operators::cleared(kind, octet);
         c += 1;
         i = i + w + 1;
         if 128 <= octet {
@@ -235,7 +235,7 @@ pub fn fill(
     let code = octet / 16 % 4;
     let w = octets::stride(code);
     values[start] = octets::read_value(s, at + 1, code);
-    octets[start] = choices::first(reading, choices::cleared(kind, octet));
+    octets[start] = choices::first(reading, operators::cleared(kind, octet));
     let next = at + w + 1;
     if 128 <= octet {
         return Tally {

@@ -1,4 +1,4 @@
--- The turns of the loop over values and end marks, and the largest value of each width. Assumes nothing.
+-- The turns of the loop over values and end marks, and the largest value of each width.
 use Prim.Native.Nat.{ℕ, zero, suc, _+_, _-_, _*_, _/_, _%_, _^_, _≤_, _<_}
 use mathlib.Core.Path.{_≡_, refl, sym, _∙_, ap}
 use mathlib.Core.List.{List, [], _∷_}
@@ -9,7 +9,7 @@ use lib.Dec.{eqb, leb, ltb}
 use lib.ListN.{length, getD}
 use Rattle.ground.proofs.Cases.{by-test}
 use Rattle.octets.specs.Widths.{widths}
-use Rattle.choices.specs.Operators.{Op, op, opsIn}
+use Rattle.operators.specs.Ops.{Op, op, opsIn}
 use Rattle.listwriting.specs.Lists.{fitsIn, ends, takes}
 use Rattle.listwriting.proofs.Sizes.{ops-more, ops-none}
 

@@ -1,4 +1,4 @@
--- The turns of the loops that write a list: one operator more, a run more, and the end. Assumes nothing.
+-- The turns of the loops that write a list: one operator more, a run more, and the end.
 use Prim.Native.Nat.{ℕ, suc, _+_, _-_, _≤_, _<_}
 use mathlib.Core.Path.{_≡_, refl, sym, _∙_, ap}
 use mathlib.Core.List.{List, [], _∷_, _++_}
@@ -10,9 +10,8 @@ use Rattle.ground.proofs.Overlays.{sets-append}
 use Rattle.octets.specs.Spell.{spelled}
 use Rattle.octets.specs.Widths.{widths, codeIn, widthOf}
 use Rattle.octets.proofs.Spells.{length-spelled}
-use Rattle.choices.specs.declared.Kind.{Kind}
-use Rattle.choices.specs.Choices.{clearedIn}
-use Rattle.choices.specs.Operators.{op, opsIn, opOctets, listOctets}
+use Rattle.operators.specs.declared.Kind.{Kind}
+use Rattle.operators.specs.Ops.{clearedIn, op, opsIn, opOctets, listOctets}
 use Rattle.listwriting.specs.Lists.{sizeIn}
 use Rattle.listwriting.specs.Runs.{between, Put}
 use Rattle.listwriting.proofs.Sizes.{size-more, size-none, ops-more, ops-none}

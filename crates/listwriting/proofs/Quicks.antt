@@ -1,4 +1,4 @@
--- The quick test of a list: one octet and one value more, and the list is right where it says so. Assumes nothing.
+-- The quick test of a list: one octet and one value more, and the list is right where it says so.
 use Prim.Native.Nat.{ℕ, zero, suc, _+_, _-_, _*_, _^_, _≤_, _<_}
 use mathlib.Core.Path.{_≡_, sym, _∙_, ap}
 use mathlib.Core.List.{List}

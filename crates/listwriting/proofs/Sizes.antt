@@ -1,4 +1,4 @@
--- The octets of a list counted, from a place up to another. Assumes nothing.
+-- The octets of a list counted, from a place up to another.
 use Prim.Native.Nat.{ℕ, zero, suc, _+_, _-_, _*_, _≤_, _<_}
 use mathlib.Core.Path.{_≡_, refl, sym, _∙_, ap}
 use mathlib.Core.List.{List, [], _∷_}
@@ -7,8 +7,8 @@ use lib.ListN.{length, getD, length-append}
 use Rattle.octets.specs.Widths.{widthOf}
 use Rattle.octets.proofs.Spells.{length-spelled}
 use Rattle.octets.proofs.Widths.{width-most}
-use Rattle.choices.specs.declared.Kind.{Kind}
-use Rattle.choices.specs.Operators.{op, opsIn, opOctets, listOctets}
+use Rattle.operators.specs.declared.Kind.{Kind}
+use Rattle.operators.specs.Ops.{op, opsIn, opOctets, listOctets}
 use Rattle.listwriting.specs.Lists.{sizeIn}
 
 -- one operator more, and none left

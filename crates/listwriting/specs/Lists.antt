@@ -1,12 +1,12 @@
 -- One list of operators in a writing: how many octets write it, and whether the standard writing takes it. The octets themselves are
--- `listOctets` of `choices`. Document 01, "Writing"; RFC 8955, 4.2.1.1 and 4.2.1.2. Assumes nothing.
+-- `listOctets` of `choices`. Document 01, "Writing"; RFC 8955, 4.2.1.1 and 4.2.1.2.
 use Prim.Native.Nat.{ℕ, zero, suc, _+_, _*_, _/_, _%_, _^_}
 use mathlib.Core.List.{List, [], _∷_}
 use mathlib.Core.Bool.{Bool, false, not, _&&_}
 use lib.ListN.{getD}
 use lib.Dec.{eqb, leb, ltb}
 use Rattle.octets.specs.Widths.{widthOf}
-use Rattle.choices.specs.Operators.{Op}
+use Rattle.operators.specs.Ops.{Op}
 
 -- the octets of n operators from a place on: one each, and its value's width (`length-list` in proofs/ has the law)
 unfoldable pub sizeIn : List ℕ → ℕ → ℕ → ℕ

@@ -1,13 +1,12 @@
--- What the loops promise each other: where the writing of a list stands, and what the quick test of a list finds. No public promise rests on this but through `Lists`. Assumes
--- nothing.
+-- What the loops promise each other: where the writing of a list stands, and what the quick test of a list finds. No public promise rests on this but through `Lists`.
 use Prim.Native.Nat.{ℕ, _+_, _-_, _≤_, _<_}
 use mathlib.Core.Path.{_≡_}
 use mathlib.Core.List.{List}
 use lib.ListN.{length, getD}
 use lib.Seq.{sets}
 use Rattle.octets.specs.Widths.{codeIn}
-use Rattle.choices.specs.declared.Kind.{Kind}
-use Rattle.choices.specs.Operators.{opsIn, listOctets}
+use Rattle.operators.specs.declared.Kind.{Kind}
+use Rattle.operators.specs.Ops.{opsIn, listOctets}
 use Rattle.listwriting.specs.Lists.{sizeIn}
 
 -- the octets of the operators from a place up to another

@@ -9,10 +9,10 @@ ghost use Prim.Native.Nat.{_+_, _-_, _<_, _≤_};
 ghost use lib.ListN.{length, getD};
 ghost use lib.Seq.{sets};
 ghost use Rattle.octets.specs.Widths.{widths, codeIn};
-ghost use Rattle.choices.specs.Operators.{opsIn, listOctets};
+ghost use Rattle.operators.specs.Ops.{opsIn, listOctets};
 ghost use Rattle.listwriting.specs.Lists.{sizeIn, fitsIn, ends, takes};
 ghost use Rattle.listwriting.specs.Runs.{Put, Alike, Within};
-use choices::Kind;
+use operators::Kind;
 
 // The largest value of each width, by the width's code.
 const MOST: [u64; 4] = [255, 65535, 4294967295, 18446744073709551615];
@@ -150,7 +150,7 @@ fn put_run(
     let mut p = at;
     let mut q = from;
     loop {
-        out[p] = choices::cleared(kind, octets[q]);
+        out[p] = operators::cleared(kind, octets[q]);
         octets::write_value(out, p + 1, code, values[q]);
         p = p + 1 + width;
         q += 1;

@@ -1,4 +1,4 @@
--- The bits of an address between two places: moved to the front of a number of 128 bits they compare alike. Assumes nothing.
+-- The bits of an address between two places: moved to the front of a number of 128 bits they compare alike.
 use Prim.Native.Nat.{ℕ, _+_, _-_, _*_, _/_, _%_, _^_, _≤_, _<_}
 use mathlib.Core.Path.{_≡_, sym, ap, ap₂, _∙_, subst}
 use mathlib.Core.Logic.{⊎-elim}

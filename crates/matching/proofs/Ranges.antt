@@ -1,4 +1,4 @@
--- Whether places end within a list, by subtractions that no machine word overflows; and the span of a component. Assumes nothing.
+-- Whether places end within a list, by subtractions that no machine word overflows; and the span of a component.
 use Prim.Native.Nat.{ℕ, _+_, _-_, _≤_, _<_}
 use mathlib.Core.Path.{_≡_, sym, _∙_}
 use mathlib.Core.Bool.{Bool, true, false, _&&_}

@@ -1,4 +1,4 @@
--- A component by what it asks, and a rule by the walk over its words. Assumes nothing.
+-- A component by what it asks, and a rule by the walk over its words.
 use Prim.Native.Nat.{ℕ, zero, suc, _+_, _-_, _*_, _≤_, _<_}
 use mathlib.Core.Path.{_≡_, refl, sym, ap, ap₂, _∙_}
 use mathlib.Core.Bool.{Bool, true, false, _&&_, false≢true}

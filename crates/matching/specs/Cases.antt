@@ -1,11 +1,10 @@
 -- Cases at the edges of the rules of matching, of the definitions: one table under one statement. Document 01's own stand in `cases`.
--- Assumes nothing.
 use Prim.Native.Nat.{ℕ}
 use mathlib.Core.Path.{_≡_, refl}
 use mathlib.Core.List.{List, [], _∷_, map}
 use mathlib.Core.Bool.{Bool, true, false}
 use Rattle.wide.specs.Numbers.{wideOf}
-use Rattle.choices.specs.Operators.{opsIn}
+use Rattle.operators.specs.Ops.{opsIn}
 use Rattle.rules.specs.declared.NetworkPrefix.the-variants.{Ipv6Offset}
 use Rattle.rules.specs.declared.FlowSpecComponent.{FlowSpecComponent}
 use Rattle.rules.specs.declared.FlowSpecComponent.the-variants.{DestinationPrefix, SourcePrefix, Port, DestinationPort, SourcePort, Dscp, Fragment}

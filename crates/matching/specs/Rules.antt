@@ -1,4 +1,4 @@
--- Whether a packet satisfies a component and a rule: document 01, "Matching and ranking"; RFC 8955, 4.2.2; RFC 8956, 3. Assumes nothing.
+-- Whether a packet satisfies a component and a rule: document 01, "Matching and ranking"; RFC 8955, 4.2.2; RFC 8956, 3.
 use Prim.Native.Nat.{ℕ, _+_, _-_, _/_, _%_, _^_}
 use mathlib.Core.List.{List, [], _∷_}
 use mathlib.Core.Bool.{Bool, true, false, _&&_}
@@ -7,9 +7,9 @@ use lib.ListN.{length}
 use Rattle.ground.specs.Picks.{pick}
 use Rattle.wide.specs.declared.Wide.{Wide}
 use Rattle.wide.specs.Numbers.{wide, num}
-use Rattle.choices.specs.declared.Kind.{Kind}
-use Rattle.choices.specs.declared.Kind.the-variants.{Numeric, Bitmask}
-use Rattle.choices.specs.Operators.{Op, opsIn}
+use Rattle.operators.specs.declared.Kind.{Kind}
+use Rattle.operators.specs.declared.Kind.the-variants.{Numeric, Bitmask}
+use Rattle.operators.specs.Ops.{Op, opsIn}
 use Rattle.rules.specs.declared.NetworkPrefix.{NetworkPrefix}
 use Rattle.rules.specs.declared.NetworkPrefix.the-variants.{Ipv4, Ipv6, Ipv4Offset, Ipv6Offset}
 use Rattle.rules.specs.declared.Span.{Span}

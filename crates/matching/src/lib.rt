@@ -10,7 +10,7 @@ ghost use Rattle.wide.specs.Numbers.{num};
 ghost use Rattle.stored.specs.Stored.{isRule, storedAt};
 ghost use Rattle.satisfying.specs.Lists.{dataMatch};
 ghost use Rattle.matching.specs.Rules.{sameBits, prefixMatches, firstOf, secondOf, eitherOf, knownOf, fragmentBits, numeric, bitmask, askedOf, named, opsOf, componentMatches, partMatches, ruleMatches};
-use choices::Kind;
+use operators::Kind;
 use packets::Field;
 use packets::Packet;
 use packets::Pair;

@@ -1,4 +1,4 @@
--- Places within the lent lists. Assumes nothing.
+-- Places within the lent lists.
 use Prim.Native.Nat.{ℕ, _+_, _-_, _≤_}
 use mathlib.Core.Path.{_≡_, sym, _∙_}
 use mathlib.Core.Bool.{true, _&&_}

@@ -1,4 +1,4 @@
--- Tests in turn: what a chain of them says, by the one that fails. Assumes nothing.
+-- Tests in turn: what a chain of them says, by the one that fails.
 use Prim.Native.Nat.{ℕ, _+_, _-_, _≤_}
 use mathlib.Core.Path.{_≡_, refl, sym, _∙_}
 use mathlib.Core.Bool.{Bool, true, false, _&&_}

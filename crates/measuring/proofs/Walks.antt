@@ -1,4 +1,4 @@
--- The turns of the walk that measures: a piece is tested and counted, and what is left of the words is the rest of the body. Assumes nothing.
+-- The turns of the walk that measures: a piece is tested and counted, and what is left of the words is the rest of the body.
 use Prim.Native.Nat.{ℕ, suc, _+_, _-_, _*_, _≤_, _<_}
 use mathlib.Core.Path.{_≡_, refl, sym, ap, ap₂, _∙_}
 use mathlib.Core.Bool.{Bool, true, false, not, _&&_, false≢true}

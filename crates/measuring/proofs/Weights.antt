@@ -1,4 +1,4 @@
--- What a piece adds: how many octets it can be, and the ways that its tests go. Assumes nothing.
+-- What a piece adds: how many octets it can be, and the ways that its tests go.
 use Prim.Native.Nat.{ℕ, suc, _+_, _-_, _*_, _≤_, _<_}
 use mathlib.Core.Path.{_≡_, refl, sym, ap, _∙_}
 use mathlib.Core.Bool.{Bool, true, false, _&&_, _||_, false≢true}
@@ -9,7 +9,7 @@ use lib.ListN.{length}
 use Rattle.ground.proofs.Cases.{by-test, both}
 use Rattle.choices.specs.declared.Reading.{Reading}
 use Rattle.choices.specs.declared.Reading.the-variants.{Plain, Ipv4, Ipv6}
-use Rattle.choices.specs.Choices.{kindOf}
+use Rattle.operators.specs.Ops.{kindOf}
 use Rattle.rules.specs.declared.NetworkPrefix.{NetworkPrefix}
 use Rattle.rules.specs.declared.NetworkPrefix.the-variants.{Ipv4 as V4, Ipv6 as V6, Ipv4Offset, Ipv6Offset}
 use Rattle.prefixes.specs.Prefixes.{offsetFits}

@@ -1,11 +1,10 @@
 -- The octets of a rule's components by each writing, one component after the other: document 01, "Writing"; RFC 8955, 4.2. What is written
--- of a prefix stands in `prefixwriting`, of a list in `choices`. Assumes nothing.
+-- of a prefix stands in `prefixwriting`, of a list in `choices`.
 use Prim.Native.Nat.{ℕ, _+_}
 use mathlib.Core.List.{List, [], _∷_, _++_}
 use Rattle.choices.specs.declared.Reading.{Reading}
 use Rattle.choices.specs.declared.Reading.the-variants.{Plain, Ipv4, Ipv6}
-use Rattle.choices.specs.Choices.{kindOf}
-use Rattle.choices.specs.Operators.{Op, opsIn, listOctets}
+use Rattle.operators.specs.Ops.{kindOf, Op, opsIn, listOctets}
 use Rattle.rules.specs.declared.NetworkPrefix.{NetworkPrefix}
 use Rattle.prefixwriting.specs.Writings.{plainOctets, standardOctets}
 use Rattle.pieces.specs.declared.Piece.{Piece}

@@ -1,5 +1,5 @@
 -- Which components each writing takes; the others are BadRecord: document 01, "Writing". A width that is none of the four can't be named by
--- an operator octet, and "at most 13 components" is tested where the rule is (`writing`). Assumes nothing.
+-- an operator octet, and "at most 13 components" is tested where the rule is (`writing`).
 use Prim.Native.Nat.{ℕ, _+_}
 use mathlib.Core.List.{List, [], _∷_, map}
 use mathlib.Core.Bool.{Bool, true, false, _&&_, _||_}
@@ -9,7 +9,7 @@ use Rattle.ground.specs.Picks.{pick}
 use Rattle.choices.specs.declared.Reading.{Reading}
 use Rattle.choices.specs.declared.Reading.the-variants.{Plain, Ipv4, Ipv6}
 use Rattle.choices.specs.Choices.{lastType}
-use Rattle.choices.specs.Operators.{Op}
+use Rattle.operators.specs.Ops.{Op}
 use Rattle.rules.specs.declared.NetworkPrefix.{NetworkPrefix}
 use Rattle.prefixes.specs.Forms.{inRange, validIn}
 use Rattle.listwriting.specs.Lists.{takes}

@@ -1,4 +1,4 @@
--- The two reserved bits of a bitmask operator, tested at once. Assumes nothing.
+-- The two reserved bits of a bitmask operator, tested at once.
 use Prim.Native.Nat.{ℕ, _/_, _%_, _≤_}
 use mathlib.Core.Path.{_≡_, refl}
 use mathlib.Core.Bool.{Bool, true, false, _||_}

@@ -1,6 +1,6 @@
--- No second answer meets a contract here: an answer can be read back from what is told of it. Assumes nothing.
+-- No second answer meets a contract here: an answer can be read back from what is told of it.
 use mathlib.Core.Path.{_≡_, refl, sym, _∙_, ap}
-use Rattle.ground.specs.Answers.{Answer, accepts, refuses}
+use Rattle.ground.specs.Answers.{Answer, accepts, declines}
 use Rattle.refusals.proofs.Once.{faultOf, fault-back}
 use Prim.Native.Nat.{ℕ}
 use Rattle.operators.specs.declared.NumericOperator.{NumericOperator}
@@ -15,7 +15,7 @@ use Rattle.operators.specs.Operators.{numericTold, bitmaskTold, octetTol
 
 abbrev numericOf : Answer NumericOperator → NumericRead
 numericOf (accepts x) = IsNumeric x
-numericOf (refuses n ns) = NoNumeric (faultOf n ns)
+numericOf (declines f) = NoNumeric (faultOf (f .number) (f .carried))
 
 numeric-back : (a : NumericRead) → numericOf (numericTold a) ≡ a
 numeric-back (IsNumeric x) = refl
@@ -26,7 +26,7 @@ numeric-once a b h = sym (numeric-back a) ∙ ap numericOf h ∙ numeric-back b
 
 abbrev bitmaskOf : Answer BitmaskOperator → BitmaskRead
 bitmaskOf (accepts x) = IsBitmask x
-bitmaskOf (refuses n ns) = NoBitmask (faultOf n ns)
+bitmaskOf (declines f) = NoBitmask (faultOf (f .number) (f .carried))
 
 bitmask-back : (a : BitmaskRead) → bitmaskOf (bitmaskTold a) ≡ a
 bitmask-back (IsBitmask x) = refl
@@ -37,7 +37,7 @@ bitmask-once a b h = sym (bitmask-back a) ∙ ap bitmaskOf h ∙ bitmask-back b
 
 abbrev octetOf : Answer ℕ → OctetMade
 octetOf (accepts x) = Octet x
-octetOf (refuses n ns) = NoOctet (faultOf n ns)
+octetOf (declines f) = NoOctet (faultOf (f .number) (f .carried))
 
 octet-back : (a : OctetMade) → octetOf (octetTold a) ≡ a
 octet-back (Octet x) = refl

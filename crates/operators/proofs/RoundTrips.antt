@@ -1,5 +1,5 @@
 -- Octet to record and back is the identity on every octet that is accepted, and record to octet and back on every record with a proper
--- width. An octet is 128 e + 64 a + 16 c + low: what the two kinds share of that is shown once, by its digits. Assumes nothing.
+-- width. An octet is 128 e + 64 a + 16 c + low: what the two kinds share of that is shown once, by its digits.
 use Prim.Native.Nat.{ℕ, zero, suc, _+_, _*_, _/_, _%_, _<_}
 use mathlib.Core.Path.{_≡_, refl, sym, _∙_, ap, subst}
 use mathlib.Core.Bool.{Bool, true, false, _||_}

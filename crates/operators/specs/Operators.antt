@@ -1,6 +1,6 @@
 -- What an operator octet says with its value, and the octet of a record: RFC 8955, 4.2.1.1 and 4.2.1.2; document 01, "The length and the
 -- component walk". "0x80 .. 0x40 is AND. 0x30 shifted right by four picks the value width .. Numeric: 0x04 less, 0x02 greater, 0x01 equal.
--- Bitmask: 0x02 NOT, 0x01 match." Assumes nothing.
+-- Bitmask: 0x02 NOT, 0x01 match."
 use Prim.Native.Nat.{ℕ, _+_, _/_, _%_, _^_}
 use mathlib.Core.List.{List, [], _∷_}
 use mathlib.Core.Bool.{Bool, true, false, _||_}

@@ -4,8 +4,38 @@ ghost use mathlib.Core.Path.{_≡_};
 ghost use mathlib.Core.Bool.{true, false};
 ghost use Prim.Native.Nat.{_+_, _≤_};
 ghost use Rattle.operators.specs.Operators.{numericFrom, bitmaskFrom, numericOctet, bitmaskOctet, numericTold, bitmaskTold, octetTold, weightOf, codePart, leastWidth, octetParts, isWidth, comparing, masking};
+ghost use Rattle.operators.specs.Ops.{kindOf, clearedIn};
 use refusals::Fault;
 use refusals::FlowSpecError;
+
+// What the operators of a list are.
+pub enum Kind {
+    Numeric,
+    Bitmask,
+}
+
+// Of a list component's type, the kind of its operators.
+pub fn kind_of(tag: u8) -> Kind
+    ensures { λ r. ⌜ r ≡ kindOf tag ⌝ }
+{
+    if tag == 9 {
+        return Kind::Bitmask;
+    }
+    if tag == 12 {
+        return Kind::Bitmask;
+    }
+    Kind::Numeric
+}
+
+// An operator octet with its reserved bits 0.
+pub fn cleared(kind: Kind, octet: u8) -> u8
+    ensures { λ r. ⌜ r ≡ clearedIn kind octet ⌝ }
+{
+    match kind {
+        Kind::Numeric => octet / 16 * 16 + octet % 8,
+        Kind::Bitmask => octet / 16 * 16 + octet % 4,
+    }
+}
 
 pub struct NumericOperator {
     pub end_of_list: bool,

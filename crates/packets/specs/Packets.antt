@@ -1,4 +1,4 @@
--- Which packets are in range, and which packet words lend: document 01, "Matching and ranking". Assumes nothing.
+-- Which packets are in range, and which packet words lend: document 01, "Matching and ranking".
 use Prim.Native.Nat.{ℕ, _^_}
 use mathlib.Core.List.{List}
 use mathlib.Core.Bool.{Bool, true, false, not, _&&_, _||_}

@@ -1,5 +1,4 @@
 -- What the words of a list and of an IPv4 prefix are, without the component on the way: by the laws of `stored` on what four words are.
--- Assumes nothing.
 use Prim.Native.Nat.{ℕ, zero, suc, _+_, _/_, _%_, _^_, _≤_, _<_}
 use mathlib.Core.Path.{_≡_, refl, sym, ap, _∙_}
 use mathlib.Core.Bool.{Bool, true, false}

@@ -1,5 +1,4 @@
 -- A component taken apart: its type, with its prefix or the places of its operators. An unused place, and words that are no record, are none.
--- Assumes nothing.
 use Prim.Native.Nat.{ℕ}
 use Rattle.rules.specs.declared.Span.{Span}
 use Rattle.rules.specs.declared.FlowSpecComponent.{FlowSpecComponent}

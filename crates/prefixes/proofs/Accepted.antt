@@ -1,5 +1,5 @@
 -- What a reading accepted: the reading moved on within the list, the prefix is in range, and that of a standard reading is one that the
--- standard writing of its family takes. By the tests that were passed. Assumes nothing.
+-- standard writing of its family takes. By the tests that were passed.
 use mathlib.Core.Path.{_≡_, refl, sym, ap, _∙_, subst}
 use mathlib.Core.List.{List, [], _∷_}
 use mathlib.Core.Bool.{Bool, true, _&&_}

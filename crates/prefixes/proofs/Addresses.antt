@@ -1,4 +1,4 @@
--- Addresses from the number that a prefix's octets spell: they fit, and moving the halves moves the number. Assumes nothing.
+-- Addresses from the number that a prefix's octets spell: they fit, and moving the halves moves the number.
 use mathlib.Core.Path.{_≡_, sym, ap, ap₂, _∙_, subst}
 use mathlib.Core.Bool.{Bool, _&&_, and-true}
 use Prim.Native.Nat.{ℕ, _+_, _-_, _*_, _/_, _%_, _^_, _≤_, _<_}

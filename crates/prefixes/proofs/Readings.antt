@@ -1,4 +1,4 @@
--- The ways that each reading goes, over plain lists: one law for each return. Assumes nothing.
+-- The ways that each reading goes, over plain lists: one law for each return.
 use mathlib.Core.Path.{_≡_, refl, sym, ap, _∙_, subst}
 use mathlib.Core.List.{List, []}
 use mathlib.Core.Bool.{Bool, true, false, _&&_, _||_}

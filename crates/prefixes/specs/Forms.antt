@@ -1,4 +1,4 @@
--- Which prefixes each writing takes: document 01, "Writing". Assumes nothing.
+-- Which prefixes each writing takes: document 01, "Writing".
 use Prim.Native.Nat.{ℕ}
 use mathlib.Core.Bool.{Bool, false, _&&_}
 use lib.Dec.{leb, eqb}

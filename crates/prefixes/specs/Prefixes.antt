@@ -1,6 +1,6 @@
 -- A prefix from its octets, by each reading: document 01, "The plain reading" and "The standard reading"; RFC 8955, 4.2.2.1; RFC 8956, 3.1.
 -- An IPv4 address is a number below 2 ^ 32, an IPv6 address one below 2 ^ 128. A reading gives the prefix and the place after it, or the
--- refusal's number: 1 where an octet is missing, 4 where length or offset are out of range. Assumes nothing.
+-- refusal's number: 1 where an octet is missing, 4 where length or offset are out of range.
 use Prim.Native.Nat.{ℕ, _+_, _-_, _*_, _/_, _%_, _^_}
 use mathlib.Core.List.{List, []}
 use mathlib.Core.Bool.{Bool, _&&_, _||_}

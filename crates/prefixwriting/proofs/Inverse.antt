@@ -1,5 +1,5 @@
 -- What the standard writing wrote, the standard reading of that family reads back as the same prefix, wherever it stands: the octets spell
--- the number that was cut from the address, and a valid address has nothing else. Assumes nothing.
+-- the number that was cut from the address, and a valid address has nothing else.
 use mathlib.Core.Path.{_≡_, sym, ap, ap₂, _∙_, subst}
 use mathlib.Core.List.{List, _∷_, _++_}
 use mathlib.Core.Bool.{true, false}

@@ -1,4 +1,4 @@
--- What a prefix's writing asks and stores, over plain lists: the octets one after the other, and each form by its clause. Assumes nothing.
+-- What a prefix's writing asks and stores, over plain lists: the octets one after the other, and each form by its clause.
 use mathlib.Core.Path.{_≡_, refl, sym, ap, _∙_}
 use mathlib.Core.List.{List, [], _∷_}
 use mathlib.Core.Bool.{true, _&&_}

@@ -1,4 +1,4 @@
--- The octets of a prefix by each writing, and how many they are: document 01, "Writing"; RFC 8955, 4.2.2.1; RFC 8956, 3.1. Assumes nothing.
+-- The octets of a prefix by each writing, and how many they are: document 01, "Writing"; RFC 8955, 4.2.2.1; RFC 8956, 3.1.
 use Prim.Native.Nat.{ℕ, _+_, _-_, _*_, _/_, _^_}
 use mathlib.Core.List.{List, [], _∷_}
 use mathlib.Core.Bool.{Bool, false}

@@ -1,5 +1,5 @@
 -- The rank of two prefixes is that of two lists of numbers: the offset, then the first n bits for each n up to the length. So contents and components
--- are in an order, and so are rules. Assumes nothing.
+-- are in an order, and so are rules.
 use Prim.Native.Nat.{ℕ, zero, suc, _+_, _-_, _≤_, _<_, min}
 use mathlib.Core.Path.{_≡_, refl, sym, _∙_, ap, ap₂}
 use mathlib.Core.List.{List, [], _∷_}

@@ -1,6 +1,6 @@
 -- Ranking is an order on rules, whatever they hold: of two exactly one of precedes, equal, is preceded; it carries through a third; and two rank equal
 -- exactly where their components are alike: equal types, equal octets of lists, equal prefixes up to the bits past their lengths, of which a
--- well-formed prefix has none. Assumes nothing.
+-- well-formed prefix has none.
 use Prim.Native.Nat.{ℕ, suc, _-_, _*_, _/_, _%_, _^_, _≤_, _<_, min}
 use mathlib.Core.Path.{_≡_, refl, sym, _∙_, ap, ap₂}
 use mathlib.Core.Bool.{Bool, true, false, _&&_, true≢false, false≢true}

@@ -1,5 +1,5 @@
 -- The bits that two addresses share from the front are the leading zeros of the exclusive-or of their halves; where fewer than n bits are shared,
--- the first n bits are in the order of the whole addresses. Assumes nothing.
+-- the first n bits are in the order of the whole addresses.
 use mathlib.Core.Path.{_≡_, sym, ap, _∙_}
 use mathlib.Core.Logic.{⊎-elim}
 use Prim.Native.Nat.{ℕ, suc, _+_, _-_, _*_, _/_, _^_, _≤_, _<_}

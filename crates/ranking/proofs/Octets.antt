@@ -1,5 +1,4 @@
 -- Octets written high first are in the order of their numbers, so that two lists are in the order of their operators, compared in turn.
--- Assumes nothing.
 use Prim.Native.Nat.{ℕ, zero, suc, _+_, _*_, _/_, _%_, _^_, _≤_, _<_, min}
 use mathlib.Core.Path.{_≡_, refl, sym, _∙_, ap, ap₂}
 use mathlib.Core.List.{List, [], _∷_, _++_}
@@ -10,10 +9,9 @@ use lib.Pow.{pow-pos, mod-pow-add}
 use lib.ListN.{length, getD}
 use Rattle.octets.specs.Spell.{spelled}
 use Rattle.octets.specs.Widths.{widths, widthOf}
-use Rattle.choices.specs.declared.Kind.{Kind}
-use Rattle.choices.specs.declared.Kind.the-variants.{Numeric, Bitmask}
-use Rattle.choices.specs.Choices.{clearedIn}
-use Rattle.choices.specs.Operators.{Op, op, opsIn, listOctets}
+use Rattle.operators.specs.declared.Kind.{Kind}
+use Rattle.operators.specs.declared.Kind.the-variants.{Numeric, Bitmask}
+use Rattle.operators.specs.Ops.{clearedIn, Op, op, opsIn, listOctets}
 use Rattle.ranking.specs.declared.Order.{Order}
 use Rattle.ranking.specs.Ranks.{lower, thenBy, inTurn, rankOctets, cutTo, rankOp}
 use Rattle.ranking.proofs.Orders.{Way, below, equal, above, way, low-below, low-equal, low-above, then-assoc}

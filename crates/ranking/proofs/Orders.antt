@@ -1,5 +1,5 @@
 -- What an order by three answers is: turned round it answers the other way, it carries through a third, and equals rank alike. Numbers are in such
--- an order, and so is what is compared in turn, or by a key. Assumes nothing.
+-- an order, and so is what is compared in turn, or by a key.
 use Prim.Native.Nat.{ℕ, suc, _<_}
 use mathlib.Core.Path.{_≡_, refl, sym, _∙_, ap, ap₂}
 use mathlib.Core.List.{List, [], _∷_}

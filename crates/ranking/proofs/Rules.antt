@@ -1,4 +1,4 @@
--- The components of a stored rule as the walk over its words meets them. Assumes nothing.
+-- The components of a stored rule as the walk over its words meets them.
 use Prim.Native.Nat.{ℕ, zero, suc, _+_, _*_, _≤_, _<_, min}
 use mathlib.Core.Path.{_≡_, refl, sym, _∙_, ap, ap₂}
 use mathlib.Core.List.{List, [], _∷_, map}
@@ -10,8 +10,8 @@ use Rattle.rules.specs.declared.FlowSpecComponent.the-variants.{Nothing}
 use Rattle.stored.specs.Stored.{partAt, componentsFrom, storedAt}
 use Rattle.stored.proofs.Words.{length-components, is-a-rule}
 use Rattle.stored.proofs.Inverse.{part-in}
-use Rattle.choices.specs.declared.Kind.{Kind}
-use Rattle.choices.specs.Choices.{kindOf}
+use Rattle.operators.specs.declared.Kind.{Kind}
+use Rattle.operators.specs.Ops.{kindOf}
 use Rattle.rules.specs.Components.{typeOf}
 use Rattle.ranking.specs.declared.Order.{Order}
 use Rattle.ranking.specs.declared.Order.the-variants.{Precedes, Follows}

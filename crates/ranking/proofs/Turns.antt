@@ -1,4 +1,4 @@
--- A loop that compares two lists in turn: the order of what is left of them after i of each. Assumes nothing.
+-- A loop that compares two lists in turn: the order of what is left of them after i of each.
 use Prim.Native.Nat.{ℕ, _+_, _≤_, _<_, min}
 use mathlib.Core.Path.{_≡_, refl, sym, _∙_}
 use mathlib.Core.List.{List}

@@ -1,5 +1,5 @@
 -- Which of two rules precedes: document 01, "Matching and ranking"; RFC 8955, 5.1; RFC 8956, 4. `rankOf` is the definition. It is an order on
--- any rules whatever, well-formed or not: `Laws` in proofs/ says so. Assumes nothing.
+-- any rules whatever, well-formed or not: `Laws` in proofs/ says so.
 use Prim.Native.Nat.{ℕ, _+_, _-_, _*_, _/_, _%_, _^_, _≤_, min}
 use mathlib.Core.Path.{_≡_}
 use mathlib.Core.Bool.{Bool, true, false}
@@ -9,9 +9,8 @@ use lib.Dec.{ltb}
 use Rattle.ground.specs.Picks.{pick}
 use Rattle.wide.specs.Numbers.{num}
 use Rattle.octets.specs.Widths.{widthOf}
-use Rattle.choices.specs.declared.Kind.{Kind}
-use Rattle.choices.specs.Choices.{kindOf, clearedIn}
-use Rattle.choices.specs.Operators.{Op, opsIn, listOctets}
+use Rattle.operators.specs.declared.Kind.{Kind}
+use Rattle.operators.specs.Ops.{kindOf, clearedIn, Op, opsIn, listOctets}
 use Rattle.rules.specs.declared.NetworkPrefix.{NetworkPrefix}
 use Rattle.rules.specs.declared.NetworkPrefix.the-variants.{Ipv4, Ipv6, Ipv4Offset, Ipv6Offset}
 use Rattle.rules.specs.declared.Span.{Span}

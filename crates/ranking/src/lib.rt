@@ -9,10 +9,10 @@ ghost use mathlib.Core.Path.{_≡_};
 ghost use Prim.Native.Nat.{_+_, _≤_, min};
 ghost use lib.ListN.{length};
 ghost use Rattle.wide.specs.Numbers.{num};
-ghost use Rattle.choices.specs.Operators.{op, opsIn, listOctets};
+ghost use Rattle.operators.specs.Ops.{op, opsIn, listOctets};
 ghost use Rattle.stored.specs.Stored.{storedAt, partAt};
 ghost use Rattle.ranking.specs.Ranks.{Shares, lower, thenBy, firstOf, front, frontOf, rankPrefix, rankOctets, cutTo, rankOp, contentOf, spanOctets, comparedOf, rankContent, Within, Inside, rankPiece, pieceOf, componentIn, Rankable, rankOf};
-use choices::Kind;
+use operators::Kind;
 use rules::FlowSpecComponent;
 use rules::NetworkPrefix;
 use rules::Span;
@@ -167,8 +167,8 @@ pub fn compare_operators(kind: Kind, octet: u8, value: u64, octet2: u8, value2: 
     ensures { λ r. ⌜ r ≡ rankOp kind (op octet value) (op octet2 value2) ⌝ }
 {
     let octets = compare_numbers(
-        choices::cleared(kind, octet) as u64,
-        choices::cleared(kind, octet2) as u64,
+        operators::cleared(kind, octet) as u64,
+        operators::cleared(kind, octet2) as u64,
     );
     then_by(
         octets,
@@ -314,7 +314,7 @@ fn compare_components(
         return Order::Follows;
     }
     compare_contents(
-        choices::kind_of(code),
+        operators::kind_of(code),
         content_of(a),
         first,
         values,

@@ -1,5 +1,5 @@
 -- What was accepted is a rule that its words give back: it has 13 components at most, each is one, and each field fits its width. By induction over
--- the walk. Assumes nothing.
+-- the walk.
 use Prim.Native.Nat.{ℕ, zero, suc, _+_, _-_, _*_, _^_, _≤_, _<_}
 use mathlib.Core.Path.{_≡_, refl, sym, _∙_, ap, subst}
 use mathlib.Core.Bool.{Bool, false, _||_}
@@ -11,7 +11,7 @@ use borrow.Author.Tests.{ltb-false, leb-true, le-leb, lt-leb}
 use lib.Dec.{ltb, leb, eqb}
 use lib.ListN.{length, getD, take, drop}
 use Rattle.ground.proofs.Answers.{never}
-use Rattle.ground.specs.Answers.{Answer, accepts, refuses}
+use Rattle.ground.specs.Answers.{Answer, accepts, declines}
 use Rattle.ground.proofs.Cases.{by-test, lt-or-le}
 use Rattle.octets.specs.Spell.{valueOf}
 use Rattle.choices.specs.declared.Reading.{Reading}
@@ -29,8 +29,7 @@ use Rattle.prefixes.proofs.Readings.{bounded-missing, bounded-over, bounded-oct
 use Rattle.prefixes.proofs.Accepted.{Octets, value-lt}
 use Rattle.lists.specs.declared.Tally.{Tally}
 use Rattle.lists.specs.Lists.{listAt, opsAt, recordedOps}
-use Rattle.choices.specs.Choices.{kindOf}
-use Rattle.choices.specs.Operators.{Op}
+use Rattle.operators.specs.Ops.{kindOf, Op}
 use Rattle.walk.specs.Walks.{prefixAt, Piece, prefixPiece, listPiece, componentAt, Body, joined, turn, walkFrom, walkAt}
 use Rattle.walk.proofs.Founds.{typed-prefix, typed-list}
 use Rattle.walk.proofs.Heres.{Here, here}
@@ -46,7 +45,7 @@ octets-made s from k make q l e =
   where
     prefix-in : Answer PrefixAt → NetworkPrefix
     prefix-in (accepts p) = p .prefix
-    prefix-in (refuses n c) = V4 0 0
+    prefix-in (declines f) = V4 0 0
 
 bounded-made : (most : ℕ) (make : ℕ → ℕ → NetworkPrefix) (s : List ℕ) (at : ℕ) (q : PrefixAt) → Octets s
     → ((len v : ℕ) → len ≤ most → v < 2 ^ (8 * octetsOf len) → FitPrefix (make len v)) → boundedAt most make s at ≡ accepts q → FitPrefix (q .prefix)
@@ -115,11 +114,11 @@ component-in {x} {p} e = let z : x ≡ p = cc in ap (λ (y : Piece). y .componen
 
 by-prefix : (r : Reading) (t : ℕ) (s : List ℕ) (at : ℕ) (p : Piece) → Octets s → (a : Answer PrefixAt) → prefixAt r s at ≡ a → prefixPiece t a ≡ accepts p → Good (p .component)
 by-prefix r t s at p o (accepts q) i e = subst Good (component-in e) (good-prefix t (q .prefix) (prefix-fits r s at q o i))
-by-prefix r t s at p o (refuses n c) i e = never e
+by-prefix r t s at p o (declines f) i e = never e
 
 by-list : (t start : ℕ) (os : List Op) (p : Piece) → 3 ≤ t → t ≤ 13 → (a : Answer Tally) → listPiece t start os a ≡ accepts p → Good (p .component)
 by-list t start os p l h (accepts q) e = subst Good (component-in e) (good-list (record { start = start; count = q .count }) t l h)
-by-list t start os p l h (refuses n c) e = never e
+by-list t start os p l h (declines f) e = never e
 
 good-piece : (r : Reading) (s : List ℕ) (at previous start : ℕ) (p : Piece) → Octets s → Here r s at previous start p → Good (p .component)
 good-piece r s at previous start p o d =
@@ -151,7 +150,7 @@ components-in {x} {b} e = let z : x ≡ b = cc in ap (λ (y : Body). y .componen
 by-rest : (previous t : ℕ) (p : Piece) (b : Body) → previous < t → Good (p .component) → (a : Answer Body) → ((d : Body) → a ≡ accepts d → Rule t (d .components))
     → joined p a ≡ accepts b → Rule previous (b .components)
 by-rest previous t p b h g (accepts d) ih e = subst (Rule previous) (components-in e) (rule-more previous t (p .component) (d .components) h g (ih d refl))
-by-rest previous t p b h g (refuses n c) ih e = never e
+by-rest previous t p b h g (declines f) ih e = never e
 
 by-found : (r : Reading) (s : List ℕ) (at previous start : ℕ) (b : Body) → Octets s → (go : ℕ → ℕ → ℕ → Answer Body)
     → ((a t i : ℕ) (d : Body) → t ≤ 13 → go a t i ≡ accepts d → Rule t (d .components))
@@ -160,7 +159,7 @@ by-found r s at previous start b o go ih (accepts p) i e =
     let d = here r s at previous start i in
     by-rest previous (getD s at 0) p b (d .rises) (good-piece r s at previous start p o d) (go (p .next) (getD s at 0) (start + length (p .operators)))
     (λ x w. ih (p .next) (getD s at 0) (start + length (p .operators)) x (d .most) w) e
-by-found r s at previous start b o go ih (refuses n c) i e = never e
+by-found r s at previous start b o go ih (declines f) i e = never e
 
 rule-from : (k : ℕ) (r : Reading) (s : List ℕ) (stop at previous start : ℕ) (b : Body) → Octets s → previous ≤ 13 → walkFrom k r s stop at previous start ≡ accepts b
     → Rule previous (b .components)

@@ -1,5 +1,5 @@
 -- The turns of the second walk, over plain lists: `Head` is the loop's invariant. What is to be stored in all is what is stored and what is left
--- at the place, so at the end all of it is. Assumes nothing.
+-- at the place, so at the end all of it is.
 use Prim.Native.Nat.{ℕ, _+_, _*_, _≤_, _<_}
 use mathlib.Core.Path.{_≡_, refl, sym, _∙_, ap, ap₂}
 use mathlib.Core.Bool.{true}
@@ -7,10 +7,10 @@ use mathlib.Core.List.{List, [], _∷_, _++_, map}
 use native.Mathlib.Omega.{arith}
 use lib.ListN.{length, getD, length-append, length-map}
 use lib.Seq.{sets, length-sets}
-use Rattle.ground.specs.Answers.{Answer, accepts, refuses}
+use Rattle.ground.specs.Answers.{Answer, accepts, declines}
 use Rattle.ground.proofs.Overlays.{sets-append}
 use Rattle.choices.specs.declared.Reading.{Reading}
-use Rattle.choices.specs.Operators.{Op, octetOf, numberOf}
+use Rattle.operators.specs.Ops.{Op, octetOf, numberOf}
 use Rattle.stored.specs.Stored.{componentWords, allWords, tailWords, ruleWords}
 use Rattle.stored.proofs.Words.{rule-whole}
 use Rattle.lists.specs.Runs.{Room}
@@ -32,7 +32,7 @@ left r s stop at previous start j = bodyIn (rest r s stop at previous start j)
 joined-body : (p : Piece) (a : Answer Body) → isBody (joined p a) ≡ true
     → (isBody a ≡ true) × (bodyIn (joined p a) ≡ body (p .component ∷ bodyIn a .components) (p .operators ++ bodyIn a .operators))
 joined-body p (accepts b) e = (refl, refl)
-joined-body p (refuses n c) e = false-true e
+joined-body p (declines f) e = false-true e
 
 pub record Head (r : Reading) (s : List ℕ) (stop : ℕ) (ws₀ vs₀ os₀ ws vs os : List ℕ) (at start j : ℕ) : Type 0 where
   pub previous : ℕ
@@ -96,7 +96,7 @@ module _ {r : Reading} {s : List ℕ} {stop : ℕ} {ws₀ vs₀ os₀ ws vs os :
   module _ (k : at < stop) where
     by-answer : (a : Answer Piece) → componentAt r s at (h .previous) start ≡ a → a ≡ accepts (pieceIn a)
     by-answer (accepts p) e = refl
-    by-answer (refuses n c) e = false-true (ap isBody (sym (rest-refused r s stop at (h .previous) start j few-of k e)) ∙ h .accepted)
+    by-answer (declines f) e = false-true (ap isBody (sym (rest-refused r s stop at (h .previous) start j few-of k e)) ∙ h .accepted)
 
     some : componentAt r s at (h .previous) start ≡ accepts (pieceIn (componentAt r s at (h .previous) start))
     some = by-answer (componentAt r s at (h .previous) start) refl

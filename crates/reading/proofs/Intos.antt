@@ -1,4 +1,4 @@
--- The ways that a reading into lent lists goes, over plain lists: one law for each return of `read_body`, `read_into` and `read`. Assumes nothing.
+-- The ways that a reading into lent lists goes, over plain lists: one law for each return of `read_body`, `read_into` and `read`.
 use Prim.Native.Nat.{ℕ, _+_, _-_, _≤_, _<_}
 use mathlib.Core.Path.{_≡_, refl, sym, _∙_, ap}
 use mathlib.Core.Bool.{true, false}
@@ -10,18 +10,18 @@ use lib.Dec.{leb}
 use lib.ListN.{length, getD}
 use lib.Seq.{sets}
 use Rattle.ground.proofs.Answers.{never}
-use Rattle.ground.specs.Answers.{Answer, accepts, refuses}
+use Rattle.ground.specs.Answers.{Answer, accepts, refuses, declines}
 use Rattle.ground.proofs.Cases.{by-test, lt-or-le}
 use Rattle.octets.specs.declared.Length.{Length}
 use Rattle.octets.specs.Lengths.{lengthAt}
 use Rattle.choices.specs.declared.Reading.{Reading}
 use Rattle.choices.specs.declared.Reading.the-variants.{Plain, Ipv4, Ipv6}
-use Rattle.choices.specs.Choices.{boundOf}
-use Rattle.choices.specs.Operators.{octetOf, numberOf}
+use Rattle.choices.specs.Choices.{boundOf, familyOf, standardOf}
+use Rattle.operators.specs.Ops.{octetOf, numberOf}
 use Rattle.stored.specs.Stored.{ruleWords}
 use Rattle.lists.specs.Runs.{Room}
 use Rattle.walk.specs.Walks.{Body, walkAt, counted}
-use Rattle.reading.specs.Readings.{ReadRule, readRule, familyOf, ruled, part, statedAt, afterLength, tooLong, readAt, shorter, roomed, readInto, standardOf, byReading, standardInto, Taken, taken, takenOf, wordsOf, operatorsOf}
+use Rattle.reading.specs.Readings.{ReadRule, readRule, ruled, part, statedAt, afterLength, tooLong, readAt, shorter, roomed, readInto, byReading, standardInto, Taken, taken, takenOf, wordsOf, operatorsOf}
 use Rattle.reading.specs.Parts.{isBody, bodyIn, bodyAt}
 
 -- what a reading answers and leaves
@@ -40,11 +40,11 @@ filled a {r} e ws vs os i x y z = (rw e (ap (λ (m : ℕ). accepts (taken (r .us
 -- the walk behind what it counted
 uncounted-refused : (a : Answer Body) {n : ℕ} {c : List ℕ} → refuses n c ≡ counted a → a ≡ refuses n c
 uncounted-refused (accepts b) e = never e
-uncounted-refused (refuses n c) e = cc
+uncounted-refused (declines f) e = cc
 
 uncounted : (a : Answer Body) {n : ℕ} → accepts n ≡ counted a → (isBody a ≡ true) × ((a ≡ accepts (bodyIn a)) × (length (bodyIn a .operators) ≡ n))
 uncounted (accepts b) e = (refl, (refl, cc))
-uncounted (refuses n c) e = never (sym e)
+uncounted (declines f) e = never (sym e)
 
 -- the shorter of two
 short-first : (m n k : ℕ) → m < k → shorter m n < k

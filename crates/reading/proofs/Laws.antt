@@ -1,5 +1,5 @@
 -- What a reader may want to know of every reading. Which refusals it meets: 6 is met by none. And that an accepted standard reading uses the stated length to
--- its last octet. Assumes nothing.
+-- its last octet.
 use Prim.Native.Nat.{ℕ, _+_, _-_}
 use mathlib.Core.Path.{_≡_, refl, sym, _∙_, ap, subst}
 use mathlib.Core.Bool.{Bool, true, false, _||_}
@@ -7,17 +7,17 @@ use mathlib.Core.List.{List}
 use native.Mathlib.Omega.{arith}
 use lib.Dec.{ltb, leb, eqb}
 use lib.ListN.{length, getD, length-take, length-drop}
-use Rattle.ground.specs.Answers.{Answer, accepts, refuses}
+use Rattle.ground.specs.Answers.{Refused, Answer, accepts, refuses, declines}
 use Rattle.ground.proofs.Cases.{by-test}
 use Rattle.octets.specs.declared.Length.{Length}
 use Rattle.octets.specs.Lengths.{lengthAt}
 use Rattle.choices.specs.declared.Reading.{Reading}
 use Rattle.choices.specs.declared.Reading.the-variants.{Plain, Ipv4, Ipv6}
-use Rattle.choices.specs.Choices.{boundOf}
+use Rattle.choices.specs.Choices.{boundOf, familyOf, standardOf}
 use Rattle.walk.specs.Walks.{Body, walkAt}
 use Rattle.walk.proofs.Mets.{walkMeets, Met, met-walk}
 use Rattle.walk.proofs.Chains.{Chain, used-up}
-use Rattle.reading.specs.Readings.{ReadRule, readRule, familyOf, ruled, part, statedAt, afterLength, tooLong, readAt, shorter, roomed, readInto, standardOf, standardInto}
+use Rattle.reading.specs.Readings.{ReadRule, readRule, ruled, part, statedAt, afterLength, tooLong, readAt, shorter, roomed, readInto, standardInto}
 use Rattle.reading.proofs.Rules.{read-walked}
 
 -- the refusals that a reading may meet: the walk's, 8 in the plain reading, and 9
@@ -51,7 +51,7 @@ eight Ipv6 n e = let z : _≡_ {A = ℕ} 0 1 = cc in absurd (omega arith)
 
 met-ruled : (r : Reading) (family used : ℕ) (a : Answer Body) → Met (walkMeets r) a → Met (readMeets r) (ruled family used a)
 met-ruled r family used (accepts b) h = tt
-met-ruled r family used (refuses n c) h = walk-read r n h
+met-ruled r family used (declines f) h = walk-read r (f .number) h
 
 met-stated : (r : Reading) (s : List ℕ) (start size : ℕ) → Met (readMeets r) (statedAt r s start size)
 unfolding statedAt
@@ -68,7 +68,7 @@ met-length r s at =
 
 met-after : (r : Reading) (s : List ℕ) (a : Answer Length) → Met (readMeets r) a → Met (readMeets r) (afterLength r s a)
 met-after r s (accepts l) h = met-stated r s (l .next .at) (l .size)
-met-after r s (refuses n c) h = h
+met-after r s (declines f) h = h
 
 met-at : (r : Reading) (s : List ℕ) → Met (readMeets r) (readAt r s)
 unfolding readAt
@@ -77,7 +77,7 @@ met-at r s = by-test (tooLong r (length s)) (λ t. rw t (eight r (length s) t)) 
 met-roomed : (r : Reading) (a : Answer ReadRule) (w v o : ℕ) → Met (readMeets r) a → Met (readMeets r) (roomed a w v o)
 met-roomed r (accepts x) w v o h =
     by-test (ltb w 64) (λ t. rw t (nine r)) (λ f. by-test (ltb (shorter v o) (length (x .operators))) (λ t. rw (f, t) (nine r)) (λ g. rw (f, g) tt))
-met-roomed r (refuses n c) w v o h = h
+met-roomed r (declines f) w v o h = h
 
 pub met-read : (r : Reading) (s : List ℕ) (w v o : ℕ) → Met (readMeets r) (readInto r s w v o)
 unfolding readInto
@@ -99,7 +99,9 @@ plain-only Ipv4 h s w v o c e = let y : false ≡ true = subst (Met (readMeets I
 plain-only Ipv6 h s w v o c e = let y : false ≡ true = subst (Met (readMeets Ipv6)) e (met-read Ipv6 s w v o) in let z : _≡_ {A = ℕ} 0 1 = cc in omega arith
 
 eleven : {ns c : List ℕ} → _≡_ {A = Answer ReadRule} (refuses 11 ns) (refuses 6 c) → ⊥
-eleven e = let z : _≡_ {A = ℕ} 11 6 = cc in omega arith
+eleven {ns} {c} e =
+    let r : _≡_ {A = Refused} (record { number = 11; carried = ns }) (record { number = 6; carried = c }) = cc in
+    let z : _≡_ {A = ℕ} 11 6 = ap (λ (x : Refused). x .number) r in omega arith
 
 pub standard-never-six : (family : ℕ) (s : List ℕ) (w v o : ℕ) (c : List ℕ) → standardInto family s w v o ≡ refuses 6 c → ⊥
 unfolding standardInto standardOf

@@ -1,7 +1,6 @@
 -- No second answer meets a contract here: an answer can be read back from what is told of it, and every lent list afterwards is stated whole.
--- Assumes nothing.
 use mathlib.Core.Path.{_≡_, refl, sym, _∙_, ap, ap₂}
-use Rattle.ground.specs.Answers.{Answer, accepts, refuses}
+use Rattle.ground.specs.Answers.{Answer, accepts, declines}
 use Rattle.refusals.proofs.Once.{faultOf, fault-back}
 use Rattle.rules.specs.declared.FlowSpecNlri.{FlowSpecNlri}
 use Rattle.reading.specs.declared.ReadInto.{ReadInto}
@@ -11,7 +10,7 @@ use Rattle.reading.specs.Readings.{Taken, toldInto}
 
 abbrev intoOf : Answer Taken → ReadInto
 intoOf (accepts x) = Read (x .used) (x .operators)
-intoOf (refuses n ns) = Refused (faultOf n ns)
+intoOf (declines f) = Refused (faultOf (f .number) (f .carried))
 
 into-back : (a : ReadInto) → intoOf (toldInto a) ≡ a
 into-back (Read u n) = refl

@@ -1,5 +1,5 @@
 -- The ways that one component is stored, over plain lists: what was accepted is a prefix or a list, and what `put_part` leaves is its words and
--- its operators. Assumes nothing.
+-- its operators.
 use Prim.Native.Nat.{ℕ, _+_, _≤_, _<_}
 use mathlib.Core.Path.{_≡_, refl, sym, _∙_, ap}
 use mathlib.Core.Bool.{true, false}
@@ -7,11 +7,10 @@ use mathlib.Core.List.{List, [], _∷_, map}
 use native.Mathlib.Omega.{arith}
 use lib.ListN.{length, getD}
 use lib.Seq.{sets}
-use Rattle.ground.specs.Answers.{Answer, accepts, refuses}
+use Rattle.ground.specs.Answers.{Answer, accepts, refuses, declines}
 use Rattle.choices.specs.declared.Reading.{Reading}
-use Rattle.choices.specs.declared.Kind.{Kind}
-use Rattle.choices.specs.Choices.{kindOf}
-use Rattle.choices.specs.Operators.{Op, octetOf, numberOf}
+use Rattle.operators.specs.declared.Kind.{Kind}
+use Rattle.operators.specs.Ops.{kindOf, Op, octetOf, numberOf}
 use Rattle.rules.specs.declared.NetworkPrefix.{NetworkPrefix}
 use Rattle.rules.specs.declared.FlowSpecComponent.{FlowSpecComponent}
 use Rattle.rules.specs.Components.{prefixOf, listOf}
@@ -48,7 +47,7 @@ false-true e = let z : _≡_ {A = ℕ} 0 1 = cc in absurd (omega arith)
 -- a list of which a piece was accepted is accepted
 whole-of : (t start : ℕ) (os : List Op) (a : Answer Tally) → isPiece (listPiece t start os a) ≡ true → isAccepted a ≡ true
 whole-of t start os (accepts l) e = refl
-whole-of t start os (refuses n c) e = e
+whole-of t start os (declines f) e = e
 
 module _ (r : Reading) (s : List ℕ) (at start : ℕ) (h : Standing r s at start) where
   module _ (o : getD s at 0 ≤ 2) where

@@ -1,5 +1,5 @@
 -- What is behind a rule that was read: the length and the walk that gave it. And its words are those of a rule, so that what is made of them by value
--- is the rule. Assumes nothing.
+-- is the rule.
 use Prim.Native.Nat.{ℕ, zero, suc, _+_, _-_, _≤_, _<_}
 use mathlib.Core.Path.{_≡_, refl, ap, subst}
 use mathlib.Core.List.{List, [], _∷_}
@@ -9,19 +9,19 @@ use lib.Dec.{ltb}
 use lib.ListN.{length, take, drop, replicate}
 use lib.Seq.{sets, getD-drop}
 use Rattle.ground.proofs.Answers.{never}
-use Rattle.ground.specs.Answers.{Answer, accepts, refuses}
+use Rattle.ground.specs.Answers.{Answer, accepts, declines}
 use Rattle.ground.proofs.Cases.{by-test}
 use Rattle.octets.specs.declared.Length.{Length}
 use Rattle.octets.specs.Lengths.{lengthAt}
 use Rattle.choices.specs.declared.Reading.{Reading}
 use Rattle.choices.specs.declared.Reading.the-variants.{Plain, Ipv4, Ipv6}
-use Rattle.choices.specs.Choices.{boundOf}
+use Rattle.choices.specs.Choices.{boundOf, familyOf}
 use Rattle.rules.specs.Components.{holdsOne}
 use Rattle.stored.specs.Stored.{allWords, tailWords, ruleWords, storedRule, ruleAt, ruleIn}
 use Rattle.stored.proofs.Inverse.{put-read}
 use Rattle.prefixes.proofs.Accepted.{Octets}
 use Rattle.walk.specs.Walks.{Body, walkAt}
-use Rattle.reading.specs.Readings.{ReadRule, readRule, familyOf, ruled, part, statedAt, afterLength, tooLong, readAt, shorter, roomed, readInto, wordsOf, nlriOf}
+use Rattle.reading.specs.Readings.{ReadRule, readRule, ruled, part, statedAt, afterLength, tooLong, readAt, shorter, roomed, readInto, wordsOf, nlriOf}
 use Rattle.reading.proofs.Bodies.{Rule, body-rule}
 
 same : {x y : ReadRule} → accepts x ≡ accepts y → x ≡ y
@@ -40,7 +40,7 @@ by-walk : (r : Reading) (s : List ℕ) (rule : ReadRule) (l : Length) → length
     → walkAt r (part s (l .next .at) (boundOf r (length s) (l .next .at + l .size))) (l .size) ≡ a → ruled (familyOf r) (l .next .at + l .size) a ≡ accepts rule
     → Walked r s rule
 by-walk r s rule l i h (accepts b) q e = record { stated = l; first = i; within = h; given = b; walked = q; is = same e }
-by-walk r s rule l i h (refuses n c) q e = never e
+by-walk r s rule l i h (declines f) q e = never e
 
 by-length : (r : Reading) (s : List ℕ) (rule : ReadRule) (a : Answer Length) → lengthAt s 0 ≡ a → afterLength r s a ≡ accepts rule → Walked r s rule
 unfolding statedAt
@@ -48,7 +48,7 @@ by-length r s rule (accepts l) i e =
     by-test (ltb (length s) (l .next .at + l .size))
     (λ t. never (rw t at e))
     (λ f. by-walk r s rule l i (ltb-false (length s) (l .next .at + l .size) f) (walkAt r (part s (l .next .at) (boundOf r (length s) (l .next .at + l .size))) (l .size)) refl (rw f at e))
-by-length r s rule (refuses n c) i e = never e
+by-length r s rule (declines f) i e = never e
 
 pub read-walked : (r : Reading) (s : List ℕ) (rule : ReadRule) → readAt r s ≡ accepts rule → Walked r s rule
 unfolding readAt
@@ -60,7 +60,7 @@ unroomed (accepts x) w v o rule e =
     by-test (ltb w 64)
     (λ t. never (rw t at e))
     (λ f. by-test (ltb (shorter v o) (length (x .operators))) (λ t. never (rw (f, t) at e)) (λ g. rw (f, g) at e))
-unroomed (refuses n c) w v o rule e = never e
+unroomed (declines f) w v o rule e = never e
 
 pub into-read : (r : Reading) (s : List ℕ) (w v o : ℕ) (rule : ReadRule) → readInto r s w v o ≡ accepts rule → readAt r s ≡ accepts rule
 unfolding readInto
@@ -107,7 +107,7 @@ by-answer r s w v o h (accepts rule) e =
     let f = read-family r s rule q in
     let l = family-octet r in
     ap ruleIn (put-read (rule .components) (rule .family) 0 (omega (arith, g .few)) (g .fit) (g .full) (omega arith) blank 0 (omega arith))
-by-answer r s w v o h (refuses n c) e = ap ruleIn empty-back
+by-answer r s w v o h (declines f) e = ap ruleIn empty-back
 
 pub rule-back : (r : Reading) (s : List ℕ) (w v o : ℕ) → Octets s → ruleIn (ruleAt (sets blank 0 (wordsOf (readInto r s w v o))) 0) ≡ nlriOf (readInto r s w v o)
 rule-back r s w v o h = by-answer r s w v o h (readInto r s w v o) refl

@@ -1,30 +1,30 @@
 -- What the functions of the second walk promise each other. They store what the first walk accepted, so they ask that it did. No promise of
--- an entry point rests on these but through `Readings`. Assumes nothing.
+-- an entry point rests on these but through `Readings`.
 use Prim.Native.Nat.{ℕ, _+_, _≤_, _<_}
 use mathlib.Core.Path.{_≡_}
 use mathlib.Core.Bool.{Bool, true, false}
 use mathlib.Core.List.{List, []}
 use lib.ListN.{length, getD}
-use Rattle.ground.specs.Answers.{Answer, accepts, refuses}
+use Rattle.ground.specs.Answers.{Answer, accepts, declines}
 use Rattle.choices.specs.declared.Reading.{Reading}
 use Rattle.rules.specs.declared.FlowSpecComponent.the-variants.{Nothing}
 use Rattle.walk.specs.Walks.{Piece, piece, typedAt, Body, body, walkAt}
 
 abbrev pub isPiece : Answer Piece → Bool
 isPiece (accepts p) = true
-isPiece (refuses number carried) = false
+isPiece (declines f) = false
 
 abbrev pub pieceIn : Answer Piece → Piece
 pieceIn (accepts p) = p
-pieceIn (refuses number carried) = piece Nothing [] 0
+pieceIn (declines f) = piece Nothing [] 0
 
 abbrev pub isBody : Answer Body → Bool
 isBody (accepts b) = true
-isBody (refuses number carried) = false
+isBody (declines f) = false
 
 abbrev pub bodyIn : Answer Body → Body
 bodyIn (accepts b) = b
-bodyIn (refuses number carried) = body [] []
+bodyIn (declines f) = body [] []
 
 -- the component whose type octet stands at a place
 unfoldable pub typedHere : Reading → List ℕ → ℕ → ℕ → Answer Piece

@@ -1,28 +1,26 @@
 -- What each reading gives: document 01, "The length and the component walk", "The plain reading", "The standard reading" and "What comes
 -- back"; RFC 8955, 4.1. `readAt` is what an input is to a reading, by itself; `readInto` what it is with so much room lent. All that an
--- entry point answers and leaves behind is told from that one answer. Assumes nothing.
+-- entry point answers and leaves behind is told from that one answer.
 use Prim.Native.Nat.{ℕ, _+_, _-_}
 use mathlib.Core.Bool.{Bool, false}
 use mathlib.Core.List.{List, [], _∷_}
 use lib.ListN.{length, take, drop}
 use lib.Dec.{ltb, leb, eqb}
-use Rattle.ground.specs.Answers.{Answer, accepts, refuses}
+use Rattle.ground.specs.Answers.{Answer, accepts, refuses, declines}
 use Rattle.ground.specs.Picks.{pick}
 use Rattle.refusals.specs.Refusals.{refusal}
 use Rattle.octets.specs.declared.Length.{Length}
 use Rattle.octets.specs.Lengths.{lengthAt}
 use Rattle.choices.specs.declared.Reading.{Reading}
 use Rattle.choices.specs.declared.Reading.the-variants.{Plain, Ipv4, Ipv6}
-use Rattle.choices.specs.Choices.{boundOf}
-use Rattle.choices.specs.Operators.{Op}
+use Rattle.choices.specs.Choices.{boundOf, familyOf, standardOf}
+use Rattle.operators.specs.Ops.{Op}
 use Rattle.rules.specs.declared.FlowSpecComponent.{FlowSpecComponent}
 use Rattle.rules.specs.declared.FlowSpecNlri.{FlowSpecNlri}
 use Rattle.stored.specs.Stored.{ruleWords, storedRule, ruleOf}
 use Rattle.walk.specs.Walks.{Body, walkAt}
 use Rattle.reading.specs.declared.ReadInto.{ReadInto}
 use Rattle.reading.specs.declared.ReadInto.the-variants.{Read, Refused}
-use Rattle.reading.specs.declared.Standard.{Standard}
-use Rattle.reading.specs.declared.Standard.the-variants.{Is, Refused as NotStandard}
 
 -- a rule that was read: its components and operators, its family (0 is a plain rule), and the octets that it used
 pub record ReadRule : Type 0 where
@@ -34,14 +32,9 @@ pub record ReadRule : Type 0 where
 abbrev pub readRule : Body → ℕ → ℕ → ReadRule
 readRule b family used = record { components = b .components; operators = b .operators; family = family; used = used }
 
-abbrev pub familyOf : Reading → ℕ
-familyOf Plain = 0
-familyOf Ipv4 = 4
-familyOf Ipv6 = 6
-
 abbrev pub ruled : ℕ → ℕ → Answer Body → Answer ReadRule
 ruled family used (accepts b) = accepts (readRule b family used)
-ruled family used (refuses number carried) = refuses number carried
+ruled family used (declines f) = declines f
 
 -- the octets from a place up to another
 abbrev pub part : List ℕ → ℕ → ℕ → List ℕ
@@ -56,7 +49,7 @@ statedAt reading s start size =
 
 abbrev pub afterLength : Reading → List ℕ → Answer Length → Answer ReadRule
 afterLength reading s (accepts l) = statedAt reading s (l .next .at) (l .size)
-afterLength reading s (refuses number carried) = refuses number carried
+afterLength reading s (declines f) = declines f
 
 -- the plain reading: "Input: at most 4,097 octets"
 abbrev pub tooLong : Reading → ℕ → Bool
@@ -75,7 +68,7 @@ shorter m n = pick (leb m n) m n
 -- "then NoRoom, given exactly when all else is accepted and places are too few": a rule takes one place of 64 words, and an operator one of
 -- the lists. It carries the rule places, or the operator places, that the rule needs
 abbrev pub roomed : Answer ReadRule → ℕ → ℕ → ℕ → Answer ReadRule
-roomed (refuses number carried) words values octets = refuses number carried
+roomed (declines f) words values octets = declines f
 roomed (accepts r) words values octets =
     pick (ltb words 64) (refuses 9 (1 ∷ []))
     (pick (ltb (shorter values octets) (length (r .operators))) (refuses 9 (length (r .operators) ∷ [])) (accepts r))
@@ -83,13 +76,9 @@ roomed (accepts r) words values octets =
 unfoldable pub readInto : Reading → List ℕ → ℕ → ℕ → ℕ → Answer ReadRule
 readInto reading s words values octets = roomed (readAt reading s) words values octets
 
--- "The standard reading (family 4 or 6 given)"; "BadFamily (not 4 or 6)"
-unfoldable pub standardOf : ℕ → Answer Reading
-standardOf family = pick (eqb family 4) (accepts Ipv4) (pick (eqb family 6) (accepts Ipv6) (refuses 11 (family ∷ [])))
-
 abbrev pub byReading : Answer Reading → List ℕ → ℕ → ℕ → ℕ → Answer ReadRule
 byReading (accepts reading) s words values octets = readInto reading s words values octets
-byReading (refuses number carried) s words values octets = refuses number carried
+byReading (declines f) s words values octets = declines f
 
 unfoldable pub standardInto : ℕ → List ℕ → ℕ → ℕ → ℕ → Answer ReadRule
 standardInto family s words values octets = byReading (standardOf family) s words values octets
@@ -106,24 +95,20 @@ abbrev pub toldInto : ReadInto → Answer Taken
 toldInto (Read used operators) = accepts (taken used operators)
 toldInto (Refused f) = refusal f
 
-abbrev pub toldStandard : Standard → Answer Reading
-toldStandard (Is reading) = accepts reading
-toldStandard (NotStandard f) = refusal f
-
 abbrev pub takenOf : Answer ReadRule → Answer Taken
 takenOf (accepts r) = accepts (taken (r .used) (length (r .operators)))
-takenOf (refuses number carried) = refuses number carried
+takenOf (declines f) = declines f
 
 -- what is written, "A refusal changes no lent octet or place": the rule's 64 words, and the operators
 abbrev pub wordsOf : Answer ReadRule → List ℕ
 wordsOf (accepts r) = ruleWords (r .components) (r .family) 0
-wordsOf (refuses number carried) = []
+wordsOf (declines f) = []
 
 abbrev pub operatorsOf : Answer ReadRule → List Op
 operatorsOf (accepts r) = r .operators
-operatorsOf (refuses number carried) = []
+operatorsOf (declines f) = []
 
 -- the rule by value; the empty one beside a refusal
 abbrev pub nlriOf : Answer ReadRule → FlowSpecNlri
 nlriOf (accepts r) = ruleOf (storedRule (r .components) (r .family) 0)
-nlriOf (refuses number carried) = ruleOf (storedRule [] 0 0)
+nlriOf (declines f) = ruleOf (storedRule [] 0 0)

@@ -7,14 +7,16 @@ ghost use mathlib.Core.List.{map};
 ghost use Prim.Native.Nat.{_+_, _≤_};
 ghost use lib.ListN.{length};
 ghost use lib.Seq.{sets};
-ghost use Rattle.choices.specs.Operators.{octetOf, numberOf};
+ghost use Rattle.operators.specs.Ops.{octetOf, numberOf};
 ghost use Rattle.choices.specs.declared.Reading.{Reading};
 ghost use Rattle.lists.specs.Runs.{Room};
 ghost use Rattle.stored.specs.Stored.{componentWords, ruleWords};
 ghost use Rattle.walk.specs.Walks.{walkAt};
-ghost use Rattle.reading.specs.Readings.{familyOf, tooLong, statedAt, roomed, readInto, standardOf, standardInto, toldInto, toldStandard, takenOf, wordsOf, operatorsOf, nlriOf};
+ghost use Rattle.reading.specs.Readings.{tooLong, statedAt, roomed, readInto, standardInto, toldInto, takenOf, wordsOf, operatorsOf, nlriOf};
+ghost use Rattle.choices.specs.Choices.{familyOf, standardOf, toldStandard};
 ghost use Rattle.reading.specs.Parts.{isBody, Standing, pieceAt, bodyAt};
 use choices::Reading;
+use choices::Standard;
 use lists::Tally;
 use octets::Cursor;
 use octets::Length;
@@ -31,26 +33,10 @@ pub enum ReadInto {
     Refused(Fault),
 }
 
-pub enum Standard {
-    Is(Reading),
-    Refused(Fault),
-}
-
 // A rule by value beside the answer, empty on a refusal: an enum can't hold an array.
 pub struct Parsed {
     pub answer: ReadInto,
     pub rule: FlowSpecNlri,
-}
-
-// The family that a rule bears.
-fn family_of(reading: Reading) -> u8
-    ensures { λ r. ⌜ r ≡ familyOf reading ⌝ }
-{
-    match reading {
-        Reading::Plain => 0,
-        Reading::Ipv4 => 4,
-        Reading::Ipv6 => 6,
-    }
 }
 
 // Whether an input of so many octets is refused unread.
@@ -108,7 +94,7 @@ fn put_part(
         s,
         from,
         reading,
-        choices::kind_of(kind),
+        operators::kind_of(kind),
         values,
         octets,
         start,
@@ -142,7 +128,7 @@ fn put_all(
         start += t.count;
         count += 1;
     }
-    stored::put_tail(words, 0, count, family_of(reading), 0);
+    stored::put_tail(words, 0, count, choices::family_of(reading), 0);
 }
 
 // What follows the length.
@@ -222,21 +208,6 @@ pub fn read_into(
     }
 }
 
-// The standard reading of a family.
-fn reading_of(family: u8) -> Standard
-    ensures { λ r. ⌜ toldStandard r ≡ standardOf family ⌝ }
-{
-    if family == 4 {
-        return Standard::Is(Reading::Ipv4);
-    }
-    if family == 6 {
-        return Standard::Is(Reading::Ipv6);
-    }
-    Standard::Refused(Fault {
-        error: FlowSpecError::BadFamily(family),
-    })
-}
-
 // The standard reading, family 4 or 6 given.
 pub fn read(
     family: u8,
@@ -250,7 +221,7 @@ pub fn read(
     ensures values { λ r. ⌜ now (values .exit) ≡ sets (now (values .entry)) 0 (map numberOf (operatorsOf (standardInto family (now (input .entry)) (length (now (words .entry))) (length (now (values .entry))) (length (now (octets .entry)))))) ⌝ }
     ensures octets { λ r. ⌜ now (octets .exit) ≡ sets (now (octets .entry)) 0 (map octetOf (operatorsOf (standardInto family (now (input .entry)) (length (now (words .entry))) (length (now (values .entry))) (length (now (octets .entry)))))) ⌝ }
 {
-    match reading_of(family) {
+    match choices::reading_of(family) {
         Standard::Is(reading) => read_into(reading, input, words, values, octets),
         Standard::Refused(fault) => ReadInto::Refused(fault),
     }

@@ -1,17 +1,49 @@
 -- A refusal's number and what it carries determine it, so an answer told in these terms leaves no second one: whoever tells an answer can
--- be shown to lose nothing by reading it back. Assumes nothing.
+-- be shown to lose nothing by reading it back.
 use Prim.Native.Nat.{ℕ}
-use mathlib.Core.Path.{_≡_, refl, ap}
+use mathlib.Core.Path.{_≡_, refl, ap, _∙_}
 use mathlib.Core.List.{List}
 use lib.ListN.{getD}
 use lib.Dec.{eqb}
 use Rattle.ground.specs.Picks.{pick}
 use Rattle.refusals.specs.declared.FlowSpecError.{FlowSpecError}
-use Rattle.refusals.specs.declared.FlowSpecError.the-variants.{InsufficientData, InvalidComponentOrder, InvalidComponentType, InvalidPrefix, InvalidOperator, InvalidValueLength, ValueTooLarge, InputTooLong, NoRoom, BadRecord, BadFamily, TooManyRules, BadPacket, MixedFamily}
+use Rattle.refusals.specs.declared.FlowSpecError.the-variants.{InsufficientData, InvalidComponentOrder, InvalidComponentType, InvalidPrefix, InvalidOperator, InvalidValueLength, ValueTooLarge, InputTooLong, NoRoom, BadRecord, BadFamily, TooManyRules, BadPacket, MixedFamily, Outer}
+use Rattle.refusals.specs.declared.OuterError.{OuterError}
+use Rattle.refusals.specs.declared.OuterError.the-variants.{BadAttribute, ShortPacket, BadHeader, TooManyHeaders, ShortDistinguisher, MixedDistinguisher, TableFull, NotStored, BadLine, NoOldForm, UnknownAction, BadRate, PastEnd}
 use Rattle.refusals.specs.declared.Fault.{Fault}
-use Rattle.refusals.specs.Refusals.{numberOf, carriedOf}
+use Rattle.refusals.specs.Refusals.{outerNumber, outerCarried, numberOf, carriedOf}
 
 -- the refusal of a number, with what it carries
+abbrev outerOf : ℕ → List ℕ → OuterError
+outerOf n ns =
+    pick (eqb n 15) BadAttribute
+    (pick (eqb n 16) ShortPacket
+    (pick (eqb n 17) BadHeader
+    (pick (eqb n 18) TooManyHeaders
+    (pick (eqb n 19) ShortDistinguisher
+    (pick (eqb n 20) (MixedDistinguisher (getD ns 0 0))
+    (pick (eqb n 21) TableFull
+    (pick (eqb n 22) NotStored
+    (pick (eqb n 23) (BadLine (getD ns 0 0))
+    (pick (eqb n 24) NoOldForm
+    (pick (eqb n 25) UnknownAction
+    (pick (eqb n 26) BadRate PastEnd)))))))))))
+
+outer-back : (e : OuterError) → outerOf (outerNumber e) (outerCarried e) ≡ e
+outer-back BadAttribute = refl
+outer-back ShortPacket = refl
+outer-back BadHeader = refl
+outer-back TooManyHeaders = refl
+outer-back ShortDistinguisher = refl
+outer-back (MixedDistinguisher a) = refl
+outer-back TableFull = refl
+outer-back NotStored = refl
+outer-back (BadLine a) = refl
+outer-back NoOldForm = refl
+outer-back UnknownAction = refl
+outer-back BadRate = refl
+outer-back PastEnd = refl
+
 abbrev pub errorOf : ℕ → List ℕ → FlowSpecError
 errorOf n ns =
     pick (eqb n 1) InsufficientData
@@ -23,10 +55,27 @@ errorOf n ns =
     (pick (eqb n 7) (ValueTooLarge (getD ns 0 0))
     (pick (eqb n 8) (InputTooLong (getD ns 0 0))
     (pick (eqb n 9) (NoRoom (getD ns 0 0))
+    (pick (eqb n 10) BadRecord
     (pick (eqb n 11) (BadFamily (getD ns 0 0))
     (pick (eqb n 12) (TooManyRules (getD ns 0 0))
     (pick (eqb n 13) BadPacket
-    (pick (eqb n 14) (MixedFamily (getD ns 0 0)) BadRecord))))))))))))
+    (pick (eqb n 14) (MixedFamily (getD ns 0 0)) (Outer (outerOf n ns)))))))))))))))
+
+-- a number from 15 on names no refusal of document 01
+outer-error : (e : OuterError) → errorOf (outerNumber e) (outerCarried e) ≡ Outer (outerOf (outerNumber e) (outerCarried e))
+outer-error BadAttribute = refl
+outer-error ShortPacket = refl
+outer-error BadHeader = refl
+outer-error TooManyHeaders = refl
+outer-error ShortDistinguisher = refl
+outer-error (MixedDistinguisher a) = refl
+outer-error TableFull = refl
+outer-error NotStored = refl
+outer-error (BadLine a) = refl
+outer-error NoOldForm = refl
+outer-error UnknownAction = refl
+outer-error BadRate = refl
+outer-error PastEnd = refl
 
 pub error-back : (e : FlowSpecError) → errorOf (numberOf e) (carriedOf e) ≡ e
 error-back InsufficientData = refl
@@ -43,6 +92,7 @@ error-back (BadFamily a) = refl
 error-back (TooManyRules a) = refl
 error-back BadPacket = refl
 error-back (MixedFamily a) = refl
+error-back (Outer e) = outer-error e ∙ ap Outer (outer-back e)
 
 abbrev pub faultOf : ℕ → List ℕ → Fault
 faultOf n ns = record { error = errorOf n ns }

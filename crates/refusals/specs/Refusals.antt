@@ -1,10 +1,44 @@
--- Each refusal's number and the numbers that it carries: document 01, "What comes back". Assumes nothing.
+-- Each refusal's number and the numbers that it carries: document 01, "What comes back"; those from 15 on are document 02's.
 use Prim.Native.Nat.{ℕ}
 use mathlib.Core.List.{List, [], _∷_}
+use lib.ListN.{length, getD}
 use Rattle.ground.specs.Answers.{Answer, refuses}
+use Rattle.refusals.specs.declared.OuterError.{OuterError}
+use Rattle.refusals.specs.declared.OuterError.the-variants.{BadAttribute, ShortPacket, BadHeader, TooManyHeaders, ShortDistinguisher, MixedDistinguisher, TableFull, NotStored, BadLine, NoOldForm, UnknownAction, BadRate, PastEnd}
 use Rattle.refusals.specs.declared.FlowSpecError.{FlowSpecError}
-use Rattle.refusals.specs.declared.FlowSpecError.the-variants.{InsufficientData, InvalidComponentOrder, InvalidComponentType, InvalidPrefix, InvalidOperator, InvalidValueLength, ValueTooLarge, InputTooLong, NoRoom, BadRecord, BadFamily, TooManyRules, BadPacket, MixedFamily}
+use Rattle.refusals.specs.declared.FlowSpecError.the-variants.{InsufficientData, InvalidComponentOrder, InvalidComponentType, InvalidPrefix, InvalidOperator, InvalidValueLength, ValueTooLarge, InputTooLong, NoRoom, BadRecord, BadFamily, TooManyRules, BadPacket, MixedFamily, Outer}
 use Rattle.refusals.specs.declared.Fault.{Fault}
+use Rattle.refusals.specs.declared.Numbers.{Numbers}
+
+abbrev pub outerNumber : OuterError → ℕ
+outerNumber BadAttribute = 15
+outerNumber ShortPacket = 16
+outerNumber BadHeader = 17
+outerNumber TooManyHeaders = 18
+outerNumber ShortDistinguisher = 19
+outerNumber (MixedDistinguisher place) = 20
+outerNumber TableFull = 21
+outerNumber NotStored = 22
+outerNumber (BadLine line) = 23
+outerNumber NoOldForm = 24
+outerNumber UnknownAction = 25
+outerNumber BadRate = 26
+outerNumber PastEnd = 27
+
+abbrev pub outerCarried : OuterError → List ℕ
+outerCarried BadAttribute = []
+outerCarried ShortPacket = []
+outerCarried BadHeader = []
+outerCarried TooManyHeaders = []
+outerCarried ShortDistinguisher = []
+outerCarried (MixedDistinguisher place) = place ∷ []
+outerCarried TableFull = []
+outerCarried NotStored = []
+outerCarried (BadLine line) = line ∷ []
+outerCarried NoOldForm = []
+outerCarried UnknownAction = []
+outerCarried BadRate = []
+outerCarried PastEnd = []
 
 abbrev pub numberOf : FlowSpecError → ℕ
 numberOf InsufficientData = 1
@@ -21,6 +55,7 @@ numberOf (BadFamily family) = 11
 numberOf (TooManyRules count) = 12
 numberOf BadPacket = 13
 numberOf (MixedFamily place) = 14
+numberOf (Outer e) = outerNumber e
 
 abbrev pub carriedOf : FlowSpecError → List ℕ
 carriedOf InsufficientData = []
@@ -37,6 +72,11 @@ carriedOf (BadFamily family) = family ∷ []
 carriedOf (TooManyRules count) = count ∷ []
 carriedOf BadPacket = []
 carriedOf (MixedFamily place) = place ∷ []
+carriedOf (Outer e) = outerCarried e
+
+-- both as four numbers: 0 for what is not carried
+abbrev pub numbersOf : ℕ → List ℕ → Numbers
+numbersOf number carried = record { number = number; count = length carried; first = getD carried 0 0; second = getD carried 1 0 }
 
 -- a refusal as an answer
 abbrev pub refusal {ℓ} : {A : Type ℓ} → Fault → Answer A

@@ -1,7 +1,23 @@
-// What a call refuses with. The names are the Rust's where it has one; the others, from the seventh on, are document 01's.
+// What a call refuses with. The names are the Rust's where it has one; the others, from the seventh on, are the documents'.
 ghost use mathlib.Core.Path.{_≡_};
-ghost use lib.ListN.{length, getD};
-ghost use Rattle.refusals.specs.Refusals.{numberOf, carriedOf};
+ghost use Rattle.refusals.specs.Refusals.{outerNumber, outerCarried, numberOf, carriedOf, numbersOf};
+
+// Refusals of what is built around rules: attributes, headers, distinguishers, tables, texts, actions, logs.
+pub enum OuterError {
+    BadAttribute,
+    ShortPacket,
+    BadHeader,
+    TooManyHeaders,
+    ShortDistinguisher,
+    MixedDistinguisher(usize),
+    TableFull,
+    NotStored,
+    BadLine(usize),
+    NoOldForm,
+    UnknownAction,
+    BadRate,
+    PastEnd,
+}
 
 pub enum FlowSpecError {
     InsufficientData,
@@ -21,6 +37,7 @@ pub enum FlowSpecError {
     TooManyRules(usize),
     BadPacket,
     MixedFamily(usize),
+    Outer(OuterError),
 }
 
 // A refusal on its way up. One field today; a place can join it without a change in those who pass it on.
@@ -28,102 +45,191 @@ pub struct Fault {
     pub error: FlowSpecError,
 }
 
-// The refusal's number in document 01.
-pub fn number(error: FlowSpecError) -> u8
-    ensures { λ r. ⌜ r ≡ numberOf error ⌝ }
+// A refusal as the documents number it: its number, how many numbers it carries, and those, 0 where there is none.
+pub struct Numbers {
+    pub number: u8,
+    pub count: u8,
+    pub first: u64,
+    pub second: u64,
+}
+
+fn outer_numbered(error: OuterError) -> Numbers
+    ensures { λ r. ⌜ r ≡ numbersOf (outerNumber error) (outerCarried error) ⌝ }
 {
     match error {
-        FlowSpecError::InsufficientData => 1,
-        FlowSpecError::InvalidComponentOrder {
-            expected_greater_than: _,
-            found: _,
-        } => 2,
-        FlowSpecError::InvalidComponentType(_) => 3,
-        FlowSpecError::InvalidPrefix => 4,
-        FlowSpecError::InvalidOperator(_) => 5,
-        FlowSpecError::InvalidValueLength(_) => 6,
-        FlowSpecError::ValueTooLarge(_) => 7,
-        FlowSpecError::InputTooLong(_) => 8,
-        FlowSpecError::NoRoom(_) => 9,
-        FlowSpecError::BadRecord => 10,
-        FlowSpecError::BadFamily(_) => 11,
-        FlowSpecError::TooManyRules(_) => 12,
-        FlowSpecError::BadPacket => 13,
-        FlowSpecError::MixedFamily(_) => 14,
+        OuterError::BadAttribute => Numbers {
+            number: 15,
+            count: 0,
+            first: 0,
+            second: 0,
+        },
+        OuterError::ShortPacket => Numbers {
+            number: 16,
+            count: 0,
+            first: 0,
+            second: 0,
+        },
+        OuterError::BadHeader => Numbers {
+            number: 17,
+            count: 0,
+            first: 0,
+            second: 0,
+        },
+        OuterError::TooManyHeaders => Numbers {
+            number: 18,
+            count: 0,
+            first: 0,
+            second: 0,
+        },
+        OuterError::ShortDistinguisher => Numbers {
+            number: 19,
+            count: 0,
+            first: 0,
+            second: 0,
+        },
+        OuterError::MixedDistinguisher(place) => Numbers {
+            number: 20,
+            count: 1,
+            first: place as u64,
+            second: 0,
+        },
+        OuterError::TableFull => Numbers {
+            number: 21,
+            count: 0,
+            first: 0,
+            second: 0,
+        },
+        OuterError::NotStored => Numbers {
+            number: 22,
+            count: 0,
+            first: 0,
+            second: 0,
+        },
+        OuterError::BadLine(line) => Numbers {
+            number: 23,
+            count: 1,
+            first: line as u64,
+            second: 0,
+        },
+        OuterError::NoOldForm => Numbers {
+            number: 24,
+            count: 0,
+            first: 0,
+            second: 0,
+        },
+        OuterError::UnknownAction => Numbers {
+            number: 25,
+            count: 0,
+            first: 0,
+            second: 0,
+        },
+        OuterError::BadRate => Numbers {
+            number: 26,
+            count: 0,
+            first: 0,
+            second: 0,
+        },
+        OuterError::PastEnd => Numbers {
+            number: 27,
+            count: 0,
+            first: 0,
+            second: 0,
+        },
     }
 }
 
-// How many numbers the refusal carries.
-pub fn carried_count(error: FlowSpecError) -> u8
-    ensures { λ r. ⌜ r ≡ length (carriedOf error) ⌝ }
+// The refusal's number, and what it carries.
+pub fn numbered(error: FlowSpecError) -> Numbers
+    ensures { λ r. ⌜ r ≡ numbersOf (numberOf error) (carriedOf error) ⌝ }
 {
     match error {
-        FlowSpecError::InsufficientData => 0,
-        FlowSpecError::InvalidComponentOrder {
-            expected_greater_than: _,
-            found: _,
-        } => 2,
-        FlowSpecError::InvalidPrefix => 0,
-        FlowSpecError::BadRecord => 0,
-        FlowSpecError::BadPacket => 0,
-        FlowSpecError::InvalidComponentType(_) => 1,
-        FlowSpecError::InvalidOperator(_) => 1,
-        FlowSpecError::InvalidValueLength(_) => 1,
-        FlowSpecError::ValueTooLarge(_) => 1,
-        FlowSpecError::InputTooLong(_) => 1,
-        FlowSpecError::NoRoom(_) => 1,
-        FlowSpecError::BadFamily(_) => 1,
-        FlowSpecError::TooManyRules(_) => 1,
-        FlowSpecError::MixedFamily(_) => 1,
-    }
-}
-
-// The first number that the refusal carries, 0 if there is none.
-pub fn first_carried(error: FlowSpecError) -> u64
-    ensures { λ r. ⌜ r ≡ getD (carriedOf error) 0 0 ⌝ }
-{
-    match error {
-        FlowSpecError::InsufficientData => 0,
+        FlowSpecError::InsufficientData => Numbers {
+            number: 1,
+            count: 0,
+            first: 0,
+            second: 0,
+        },
         FlowSpecError::InvalidComponentOrder {
             expected_greater_than,
-            found: _,
-        } => expected_greater_than as u64,
-        FlowSpecError::InvalidComponentType(kind) => kind as u64,
-        FlowSpecError::InvalidPrefix => 0,
-        FlowSpecError::InvalidOperator(octet) => octet as u64,
-        FlowSpecError::InvalidValueLength(code) => code as u64,
-        FlowSpecError::ValueTooLarge(body) => body as u64,
-        FlowSpecError::InputTooLong(size) => size as u64,
-        FlowSpecError::NoRoom(needed) => needed as u64,
-        FlowSpecError::BadRecord => 0,
-        FlowSpecError::BadFamily(family) => family as u64,
-        FlowSpecError::TooManyRules(count) => count as u64,
-        FlowSpecError::BadPacket => 0,
-        FlowSpecError::MixedFamily(place) => place as u64,
-    }
-}
-
-// The second, 0 if there is none: of an order that does not rise, the type found.
-pub fn second_carried(error: FlowSpecError) -> u64
-    ensures { λ r. ⌜ r ≡ getD (carriedOf error) 1 0 ⌝ }
-{
-    match error {
-        FlowSpecError::InvalidComponentOrder {
-            expected_greater_than: _,
             found,
-        } => found as u64,
-        FlowSpecError::InsufficientData => 0,
-        FlowSpecError::InvalidPrefix => 0,
-        FlowSpecError::BadRecord => 0,
-        FlowSpecError::BadPacket => 0,
-        FlowSpecError::InvalidComponentType(_) => 0,
-        FlowSpecError::InvalidOperator(_) => 0,
-        FlowSpecError::InvalidValueLength(_) => 0,
-        FlowSpecError::ValueTooLarge(_) => 0,
-        FlowSpecError::InputTooLong(_) => 0,
-        FlowSpecError::NoRoom(_) => 0,
-        FlowSpecError::BadFamily(_) => 0,
-        FlowSpecError::TooManyRules(_) => 0,
-        FlowSpecError::MixedFamily(_) => 0,
+        } => Numbers {
+            number: 2,
+            count: 2,
+            first: expected_greater_than as u64,
+            second: found as u64,
+        },
+        FlowSpecError::InvalidComponentType(component_type) => Numbers {
+            number: 3,
+            count: 1,
+            first: component_type as u64,
+            second: 0,
+        },
+        FlowSpecError::InvalidPrefix => Numbers {
+            number: 4,
+            count: 0,
+            first: 0,
+            second: 0,
+        },
+        FlowSpecError::InvalidOperator(octet) => Numbers {
+            number: 5,
+            count: 1,
+            first: octet as u64,
+            second: 0,
+        },
+        FlowSpecError::InvalidValueLength(code) => Numbers {
+            number: 6,
+            count: 1,
+            first: code as u64,
+            second: 0,
+        },
+        FlowSpecError::ValueTooLarge(body) => Numbers {
+            number: 7,
+            count: 1,
+            first: body as u64,
+            second: 0,
+        },
+        FlowSpecError::InputTooLong(size) => Numbers {
+            number: 8,
+            count: 1,
+            first: size as u64,
+            second: 0,
+        },
+        FlowSpecError::NoRoom(needed) => Numbers {
+            number: 9,
+            count: 1,
+            first: needed as u64,
+            second: 0,
+        },
+        FlowSpecError::BadRecord => Numbers {
+            number: 10,
+            count: 0,
+            first: 0,
+            second: 0,
+        },
+        FlowSpecError::BadFamily(family) => Numbers {
+            number: 11,
+            count: 1,
+            first: family as u64,
+            second: 0,
+        },
+        FlowSpecError::TooManyRules(count) => Numbers {
+            number: 12,
+            count: 1,
+            first: count as u64,
+            second: 0,
+        },
+        FlowSpecError::BadPacket => Numbers {
+            number: 13,
+            count: 0,
+            first: 0,
+            second: 0,
+        },
+        FlowSpecError::MixedFamily(place) => Numbers {
+            number: 14,
+            count: 1,
+            first: place as u64,
+            second: 0,
+        },
+        FlowSpecError::Outer(outer) => outer_numbered(outer),
     }
 }

@@ -1,5 +1,5 @@
 -- Whole rules: one that the standard writing takes is read back in canonical form, and one that was read is taken and is in that form
--- already. Assumes nothing.
+-- already.
 use Prim.Native.Nat.{ℕ, _+_, _-_, _≤_, _<_}
 use mathlib.Core.Path.{_≡_, refl, sym, ap, ap₂, _∙_, subst}
 use mathlib.Core.Bool.{Bool, true, _&&_}
@@ -15,7 +15,7 @@ use Rattle.ground.proofs.Cases.{lt-or-le, both}
 use Rattle.octets.specs.Lengths.{lengthOctets}
 use Rattle.choices.specs.declared.Reading.{Reading}
 use Rattle.choices.specs.declared.Reading.the-variants.{Plain, Ipv4, Ipv6}
-use Rattle.choices.specs.Operators.{Op, octetOf, numberOf, opsIn}
+use Rattle.operators.specs.Ops.{Op, octetOf, numberOf, opsIn}
 use Rattle.rules.specs.declared.FlowSpecComponent.{FlowSpecComponent}
 use Rattle.prefixes.proofs.Accepted.{Octets}
 use Rattle.stored.specs.Stored.{ruleWords, StoredRule, storedRule, ruleAt}
@@ -25,7 +25,8 @@ use Rattle.walk.specs.Walks.{Body, body}
 use Rattle.pieces.specs.Pieces.{pieceOf}
 use Rattle.measuring.specs.Bodies.{lent, opsOf, bodyOctets}
 use Rattle.measuring.specs.Grounds.{allOperators, allTaken, inOrder, takenAfter}
-use Rattle.reading.specs.Readings.{ReadRule, readRule, familyOf, part, readAt}
+use Rattle.reading.specs.Readings.{ReadRule, readRule, part, readAt}
+use Rattle.choices.specs.Choices.{familyOf}
 use Rattle.reading.proofs.Bodies.{Rule}
 use Rattle.reading.proofs.Rules.{read-rule}
 use Rattle.reading.proofs.Laws.{to-the-last-octet}

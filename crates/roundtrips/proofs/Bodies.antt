@@ -1,5 +1,5 @@
 -- The components that the standard writing wrote, read back by the walk: one component after the other, each where the one before it ended.
--- Types rise to 13 at most, so the walk's bound is never met. Assumes nothing.
+-- Types rise to 13 at most, so the walk's bound is never met.
 use Prim.Native.Nat.{ℕ, zero, suc, _+_, _≤_, _<_}
 use mathlib.Core.Path.{_≡_, refl, sym, ap, ap₂, _∙_}
 use mathlib.Core.Bool.{true}

@@ -1,4 +1,4 @@
--- A component that the standard writing takes reads back, wherever it stands: by the laws of its prefix or of its list. Assumes nothing.
+-- A component that the standard writing takes reads back, wherever it stands: by the laws of its prefix or of its list.
 use Prim.Native.Nat.{ℕ, zero, suc, _+_, _≤_, _<_}
 use mathlib.Core.Path.{_≡_, refl, sym, ap, ap₂, _∙_}
 use mathlib.Core.Bool.{true, false≢true}
@@ -12,8 +12,8 @@ use Rattle.ground.proofs.Cases.{both}
 use Rattle.ground.specs.Answers.{accepts}
 use Rattle.choices.specs.declared.Reading.{Reading}
 use Rattle.choices.specs.declared.Reading.the-variants.{Plain, Ipv4, Ipv6}
-use Rattle.choices.specs.Choices.{lastType, kindOf}
-use Rattle.choices.specs.Operators.{Op, opsIn, listOctets}
+use Rattle.choices.specs.Choices.{lastType}
+use Rattle.operators.specs.Ops.{kindOf, Op, opsIn, listOctets}
 use Rattle.rules.specs.declared.NetworkPrefix.{NetworkPrefix}
 use Rattle.rules.specs.Components.{prefixOf, listOf}
 use Rattle.stored.specs.Stored.{span}

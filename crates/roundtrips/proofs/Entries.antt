@@ -1,4 +1,4 @@
--- A rule that was read, written again from the lists that the reading left: its words and operators stand at their front. Assumes nothing.
+-- A rule that was read, written again from the lists that the reading left: its words and operators stand at their front.
 use Prim.Native.Nat.{ℕ, _+_, _≤_}
 use mathlib.Core.Path.{_≡_, ap, ap₂, _∙_}
 use mathlib.Core.List.{List, _++_, map}
@@ -7,12 +7,13 @@ use lib.ListN.{length, drop, length-map}
 use lib.Seq.{sets, sets-eq}
 use Rattle.ground.specs.Answers.{accepts}
 use Rattle.choices.specs.declared.Reading.{Reading}
-use Rattle.choices.specs.Operators.{octetOf, numberOf}
+use Rattle.operators.specs.Ops.{octetOf, numberOf}
 use Rattle.prefixes.proofs.Accepted.{Octets}
 use Rattle.stored.specs.Stored.{ruleWords}
 use Rattle.stored.proofs.Inverse.{length-rule}
 use Rattle.walk.specs.Walks.{body}
-use Rattle.reading.specs.Readings.{ReadRule, readRule, familyOf, readInto, standardInto}
+use Rattle.reading.specs.Readings.{ReadRule, readRule, readInto, standardInto}
+use Rattle.choices.specs.Choices.{familyOf}
 use Rattle.reading.proofs.Rules.{into-read, read-rule}
 use Rattle.writing.specs.Writings.{writtenFrom, writtenIn}
 use Rattle.roundtrips.specs.Trips.{Again}

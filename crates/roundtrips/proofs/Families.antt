@@ -1,4 +1,4 @@
--- The readings and writings that are not plain, and the family that names each to an entry point. Assumes nothing.
+-- The readings and writings that are not plain, and the family that names each to an entry point.
 use Prim.Native.Nat.{ℕ}
 use mathlib.Core.Path.{_≡_, refl, sym}
 use mathlib.Core.Bool.{true}
@@ -11,7 +11,8 @@ use Rattle.ground.specs.Answers.{accepts}
 use Rattle.ground.proofs.Cases.{by-test}
 use Rattle.choices.specs.declared.Reading.{Reading}
 use Rattle.choices.specs.declared.Reading.the-variants.{Plain, Ipv4, Ipv6}
-use Rattle.reading.specs.Readings.{ReadRule, familyOf, readInto, standardOf, standardInto}
+use Rattle.reading.specs.Readings.{ReadRule, readInto, standardInto}
+use Rattle.choices.specs.Choices.{familyOf, standardOf}
 use Rattle.writing.specs.Writings.{writtenFrom, writtenIn}
 use Rattle.roundtrips.proofs.Lists.{Standard}
 

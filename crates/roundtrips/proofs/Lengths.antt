@@ -1,5 +1,5 @@
 -- The length field: what was written is read back, whatever follows it; and what was read is 4095 at most, and is written in no more
--- octets. Assumes nothing.
+-- octets.
 use Prim.Native.Nat.{ℕ, _+_, _*_, _/_, _%_, _≤_, _<_}
 use mathlib.Core.Path.{_≡_, sym, ap, _∙_}
 use mathlib.Core.List.{List, [], _∷_, _++_}

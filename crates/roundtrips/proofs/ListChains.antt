@@ -1,5 +1,5 @@
 -- A list as a chain of steps: each finds an operator that is not refused, and the last alone has the end mark. A written list is one, and so
--- is an accepted one; a chain gives the count, the place after it and the operators. Assumes nothing.
+-- is an accepted one; a chain gives the count, the place after it and the operators.
 use Prim.Native.Nat.{ℕ, zero, suc, _+_, _-_, _*_, _^_, _≤_, _<_}
 use mathlib.Core.Path.{_≡_, refl, sym, _∙_, ap, subst}
 use mathlib.Core.Bool.{Bool, true, false, not, _&&_}
@@ -17,9 +17,9 @@ use Rattle.octets.specs.Widths.{widthOf}
 use Rattle.octets.specs.Spell.{valueOf, spelled}
 use Rattle.octets.proofs.Spells.{length-spelled, value-spelled}
 use Rattle.choices.specs.declared.Reading.{Reading}
-use Rattle.choices.specs.declared.Kind.{Kind}
-use Rattle.choices.specs.Choices.{refusedIn, clearedIn}
-use Rattle.choices.specs.Operators.{Op, op, opOctets, listOctets}
+use Rattle.operators.specs.declared.Kind.{Kind}
+use Rattle.choices.specs.Choices.{refusedIn}
+use Rattle.operators.specs.Ops.{clearedIn, Op, op, opOctets, listOctets}
 use Rattle.lists.specs.declared.Tally.{Tally}
 use Rattle.lists.specs.Lists.{tally, Step, operator, missing, stepAt, turn, listFrom, listAt, opsTurn, opsFrom, opsAt, clearedOp}
 use Rattle.lists.proofs.Steps.{step-op, op-next}

@@ -1,5 +1,5 @@
 -- What clearing reserved bits, and AND on a first operator, keeps of an operator: its width and its end mark; so whether a list ends well and
--- how many octets write it stay. Assumes nothing.
+-- how many octets write it stay.
 use Prim.Native.Nat.{ℕ, _+_, _*_, _/_, _%_, _^_, _≤_}
 use mathlib.Core.Path.{_≡_, refl, sym, _∙_, ap, ap₂}
 use mathlib.Core.Bool.{false, not}
@@ -15,10 +15,10 @@ use Rattle.octets.proofs.Spells.{length-spelled}
 use Rattle.octets.proofs.Widths.{width-least}
 use Rattle.choices.specs.declared.Reading.{Reading}
 use Rattle.choices.specs.declared.Reading.the-variants.{Plain, Ipv4, Ipv6}
-use Rattle.choices.specs.declared.Kind.{Kind}
-use Rattle.choices.specs.declared.Kind.the-variants.{Numeric, Bitmask}
-use Rattle.choices.specs.Choices.{refusedIn, clearedIn, firstIn}
-use Rattle.choices.specs.Operators.{Op, op, opOctets, listOctets}
+use Rattle.operators.specs.declared.Kind.{Kind}
+use Rattle.operators.specs.declared.Kind.the-variants.{Numeric, Bitmask}
+use Rattle.choices.specs.Choices.{refusedIn, firstIn}
+use Rattle.operators.specs.Ops.{clearedIn, Op, op, opOctets, listOctets}
 use Rattle.lists.specs.Lists.{clearedOp, firstOp, recordedOps}
 use Rattle.listwriting.specs.Lists.{fitsIn, ends}
 

@@ -1,5 +1,5 @@
 -- The list half of the round trip: a list that the standard writing takes reads back, wherever it stands, and a list that a standard
--- reading accepted can be written. Assumes nothing.
+-- reading accepted can be written.
 use Prim.Native.Nat.{ℕ, _+_, _/_, _%_}
 use mathlib.Core.Path.{_≡_, refl, _∙_, ap, ap₂}
 use mathlib.Core.Bool.{true, not}
@@ -12,9 +12,9 @@ use Rattle.ground.proofs.Cases.{both}
 use Rattle.ground.specs.Answers.{accepts}
 use Rattle.choices.specs.declared.Reading.{Reading}
 use Rattle.choices.specs.declared.Reading.the-variants.{Plain, Ipv4, Ipv6}
-use Rattle.choices.specs.declared.Kind.{Kind}
-use Rattle.choices.specs.Choices.{clearedIn, firstIn}
-use Rattle.choices.specs.Operators.{Op, op, listOctets}
+use Rattle.operators.specs.declared.Kind.{Kind}
+use Rattle.choices.specs.Choices.{firstIn}
+use Rattle.operators.specs.Ops.{clearedIn, Op, op, listOctets}
 use Rattle.lists.specs.declared.Tally.{Tally}
 use Rattle.lists.specs.Lists.{tally, listAt, opsAt, clearedOp, recordedOps}
 use Rattle.lists.proofs.Ends.{list-counts}

@@ -1,10 +1,10 @@
--- The operators that were put into lent lists one after the other stand there again. Assumes nothing.
+-- The operators that were put into lent lists one after the other stand there again.
 use Prim.Native.Nat.{ℕ, zero, suc, _+_}
 use mathlib.Core.Path.{_≡_, refl, ap, _∙_}
 use mathlib.Core.List.{List, [], _∷_, _++_, map}
 use native.Mathlib.Omega.{arith}
 use lib.ListN.{length, getD}
-use Rattle.choices.specs.Operators.{Op, op, octetOf, numberOf, opsIn}
+use Rattle.operators.specs.Ops.{Op, op, octetOf, numberOf, opsIn}
 
 -- one place on
 shift : (v x : ℕ) (values octets : List ℕ) (at n : ℕ) → opsIn (v ∷ values) (x ∷ octets) (suc at) n ≡ opsIn values octets at n

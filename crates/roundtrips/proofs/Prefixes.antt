@@ -1,5 +1,5 @@
 -- A prefix that a standard reading accepted: the writing takes it, writes it in as many octets as were read, and no word of its address is
--- more than a word. By the ways that each reading goes. Assumes nothing.
+-- more than a word. By the ways that each reading goes.
 use Prim.Native.Nat.{ℕ, _+_, _-_}
 use mathlib.Core.Path.{_≡_, sym, _∙_, subst}
 use mathlib.Core.Bool.{true}

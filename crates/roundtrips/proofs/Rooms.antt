@@ -1,4 +1,4 @@
--- A reading with room: what was accepted had it, and what is accepted without a bound is accepted with it. Assumes nothing.
+-- A reading with room: what was accepted had it, and what is accepted without a bound is accepted with it.
 use Prim.Native.Nat.{ℕ, _≤_}
 use mathlib.Core.Path.{_≡_, ap, _∙_}
 use mathlib.Core.List.{List}
@@ -7,7 +7,7 @@ use borrow.Author.Tests.{ltb-false, le-ltb, leb-true, leb-false}
 use lib.Dec.{ltb, leb}
 use lib.ListN.{length}
 use Rattle.ground.proofs.Answers.{never}
-use Rattle.ground.specs.Answers.{Answer, accepts, refuses}
+use Rattle.ground.specs.Answers.{Answer, accepts, declines}
 use Rattle.ground.proofs.Cases.{by-test}
 use Rattle.choices.specs.declared.Reading.{Reading}
 use Rattle.reading.specs.Readings.{ReadRule, readAt, shorter, roomed, readInto}
@@ -37,7 +37,7 @@ room-in (accepts x) rule w v o e =
     let a = s .0 in
     let b = s .1 in
     record { for-rule = ltb-false w 64 f; in-values = omega arith; in-octets = omega arith }))
-room-in (refuses n c) rule w v o e = never e
+room-in (declines f) rule w v o e = never e
 
 module _ (r : Reading) (s : List ℕ) (rule : ReadRule) (w v o : ℕ) where
   pub had-room : readInto r s w v o ≡ accepts rule → Room rule w v o

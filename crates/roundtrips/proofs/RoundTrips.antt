@@ -24,7 +24,7 @@ use lib.Seq.{sets}
 use Rattle.ground.specs.Answers.{accepts}
 use Rattle.choices.specs.declared.Reading.{Reading}
 use Rattle.choices.specs.declared.Reading.the-variants.{Plain}
-use Rattle.choices.specs.Operators.{octetOf, numberOf}
+use Rattle.operators.specs.Ops.{octetOf, numberOf}
 use Rattle.prefixes.proofs.Accepted.{Octets}
 use Rattle.stored.specs.Stored.{ruleWords, StoredRule, storedRule, ruleAt}
 use Rattle.walk.specs.Walks.{body}
@@ -33,7 +33,8 @@ use Rattle.measuring.specs.Bodies.{lent, opsOf}
 use Rattle.measuring.specs.Grounds.{allOperators}
 use Rattle.reading.specs.declared.ReadInto.{ReadInto}
 use Rattle.reading.specs.declared.Parsed.{Parsed}
-use Rattle.reading.specs.Readings.{ReadRule, readRule, familyOf, readAt, standardInto, toldInto}
+use Rattle.reading.specs.Readings.{ReadRule, readRule, readAt, standardInto, toldInto}
+use Rattle.choices.specs.Choices.{familyOf}
 use Rattle.reading.proofs.Laws.{Exact, to-the-last-octet}
 use Rattle.reading.proofs.Once.{into-once, parsed-once as parsed-one}
 use Rattle.writing.specs.declared.Written.{Written}

@@ -1,11 +1,11 @@
 -- A rule that counts its places one component after the other, with no reserved bit set, is its own canonical form: its operators are those
--- at its first place and after it. Assumes nothing.
+-- at its first place and after it.
 use Prim.Native.Nat.{ℕ, zero, suc, _+_}
 use mathlib.Core.Path.{_≡_, refl, sym, ap, ap₂, _∙_}
 use mathlib.Core.List.{List, [], _∷_, _++_, map}
 use native.Mathlib.Omega.{arith}
 use lib.ListN.{getD}
-use Rattle.choices.specs.Operators.{Op, op, opsIn}
+use Rattle.operators.specs.Ops.{Op, op, opsIn}
 use Rattle.rules.specs.declared.FlowSpecComponent.{FlowSpecComponent}
 use Rattle.rules.specs.declared.FlowSpecComponent.the-variants.{Nothing, DestinationPrefix, SourcePrefix, IpProtocol, Port, DestinationPort, SourcePort, IcmpType, IcmpCode, TcpFlags, PacketLength, Dscp, Fragment, FlowLabel}
 use Rattle.rules.specs.Components.{listOf}

@@ -1,4 +1,4 @@
--- The pieces of a stored rule: each has the type of a prefix or of a list, and no word of an address is more than a word. Assumes nothing.
+-- The pieces of a stored rule: each has the type of a prefix or of a list, and no word of an address is more than a word.
 use Prim.Native.Nat.{ℕ, zero, suc, _+_, _/_, _%_, _^_, _<_}
 use mathlib.Core.Bool.{Bool, true, false}
 use mathlib.Core.List.{List, [], _∷_, map}

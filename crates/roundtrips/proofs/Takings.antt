@@ -1,5 +1,5 @@
 -- What a standard reading accepted, the standard writing takes, with the operators put into lent lists one after the other; it is in
--- canonical form; and it is written in as many octets as were read. One component first, then the chain of them. Assumes nothing.
+-- canonical form; and it is written in as many octets as were read. One component first, then the chain of them.
 use Prim.Native.Nat.{ℕ, zero, suc, _+_, _*_, _≤_, _<_}
 use mathlib.Core.Path.{_≡_, refl, sym, ap, ap₂, _∙_, subst}
 use mathlib.Core.Bool.{Bool, true, false, _&&_, _||_}
@@ -10,12 +10,12 @@ use borrow.Author.Tests.{le-leb, lt-ltb}
 use lib.Dec.{eqb}
 use lib.ListN.{length, getD, length-append, length-map}
 use Rattle.ground.proofs.Answers.{never}
-use Rattle.ground.specs.Answers.{Answer, accepts, refuses}
+use Rattle.ground.specs.Answers.{Answer, accepts, declines}
 use Rattle.ground.proofs.Cases.{lt-or-le}
 use Rattle.choices.specs.declared.Reading.{Reading}
 use Rattle.choices.specs.declared.Reading.the-variants.{Plain, Ipv4, Ipv6}
-use Rattle.choices.specs.Choices.{lastType, kindOf}
-use Rattle.choices.specs.Operators.{Op, octetOf, numberOf, opsIn, listOctets}
+use Rattle.choices.specs.Choices.{lastType}
+use Rattle.operators.specs.Ops.{kindOf, Op, octetOf, numberOf, opsIn, listOctets}
 use Rattle.rules.specs.declared.NetworkPrefix.{NetworkPrefix}
 use Rattle.rules.specs.declared.FlowSpecComponent.{FlowSpecComponent}
 use Rattle.rules.specs.Components.{prefixOf, listOf}
@@ -86,7 +86,7 @@ module _ (w : Reading) (st : Standard w) (s : List ℕ) (o : Octets s) where
         subst (λ (x : Found). Fits w l at t start x (pieceOf (x .component))) (same e)
         (subst (Fits w l at t start (piece (prefixOf t (q .prefix)) [] (q .next))) (prefix-piece (q .prefix) t h k)
         record { taken = r .taken; kind = refl; count = refl; place = refl; clear = refl; long = omega arith; few = omega arith; low = low-prefix t (q .prefix) (r .low) })
-    by-prefix p h k (refuses n c) i e = never e
+    by-prefix p h k (declines f) i e = never e
 
     by-list : (p : Found) → 3 ≤ t → t ≤ 13 → (a : Answer Tally) → listAt w (kindOf t) s (at + 1) ≡ a
         → listPiece t start (recordedOps w (kindOf t) (opsAt s (at + 1))) a ≡ accepts p
@@ -114,7 +114,7 @@ module _ (w : Reading) (st : Standard w) (s : List ℕ) (o : Octets s) where
           few = omega arith;
           low = low-list t (span start (q .count));
         })
-    by-list p h k (refuses n c) i e there = never e
+    by-list p h k (declines f) i e there = never e
 
   fits : (l : Lent) (at previous start : ℕ) (p : Found) → Here w s at previous start p
       → ((n : ℕ) → n ≡ length (p .operators) → (insideOf l start n ≡ true) × (opsOf l start n ≡ p .operators))

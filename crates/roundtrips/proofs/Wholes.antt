@@ -1,4 +1,4 @@
--- A body after its length, read whole: the length says where the body ends, and the walk sees nothing else. Assumes nothing.
+-- A body after its length, read whole: the length says where the body ends, and the walk sees nothing else.
 use Prim.Native.Nat.{ℕ, _+_, _-_, _≤_}
 use mathlib.Core.Path.{_≡_, refl, sym, ap, ap₂, _∙_}
 use mathlib.Core.Bool.{false}
@@ -12,9 +12,9 @@ use Rattle.octets.specs.declared.Length.{Length}
 use Rattle.octets.specs.Lengths.{lengthAt, lengthOctets}
 use Rattle.choices.specs.declared.Reading.{Reading}
 use Rattle.choices.specs.declared.Reading.the-variants.{Plain, Ipv4, Ipv6}
-use Rattle.choices.specs.Choices.{boundOf}
+use Rattle.choices.specs.Choices.{boundOf, familyOf}
 use Rattle.walk.specs.Walks.{Body, walkAt}
-use Rattle.reading.specs.Readings.{readRule, familyOf, part, statedAt, tooLong, readAt}
+use Rattle.reading.specs.Readings.{readRule, part, statedAt, tooLong, readAt}
 use Rattle.roundtrips.proofs.Lists.{Standard}
 use Rattle.roundtrips.proofs.Lengths.{length-back}
 

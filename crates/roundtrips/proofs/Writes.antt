@@ -1,5 +1,5 @@
 -- What is behind octets that were written: a stored rule that the writing takes, and its body after its length. And back: such a rule is
--- written where there is room. Assumes nothing.
+-- written where there is room.
 use Prim.Native.Nat.{ℕ, _≤_}
 use mathlib.Core.Path.{_≡_, refl}
 use mathlib.Core.Bool.{Bool, true}
@@ -8,7 +8,7 @@ use borrow.Author.Tests.{ltb-false, le-ltb}
 use lib.Dec.{ltb}
 use lib.ListN.{length}
 use Rattle.ground.proofs.Answers.{never}
-use Rattle.ground.specs.Answers.{Answer, accepts, refuses}
+use Rattle.ground.specs.Answers.{Answer, accepts, declines}
 use Rattle.ground.proofs.Cases.{by-test}
 use Rattle.choices.specs.declared.Reading.{Reading}
 use Rattle.stored.specs.Stored.{StoredRule, ruleAt}
@@ -48,7 +48,7 @@ module _ (w : Reading) (words values octets : List ℕ) (room : ℕ) where
       by-test (takenIn w s values octets)
       (λ t. let a = answered (bodyOf w s values octets) room xs (rw t at e) in record { rule = s; stored = q; taken = t; most = a .0; is = a .1 })
       (λ f. never (rw f at e))
-  by-rule xs (refuses n c) q e = never e
+  by-rule xs (declines f) q e = never e
 
   pub wrote : (xs : List ℕ) → writtenFrom w words values octets room ≡ accepts xs → Wrote w words values octets xs
   unfolding writtenFrom

@@ -1,14 +1,12 @@
 -- What a round trip is. A lent rule may name the places of its operators in any order, and reserved bits in their octets are written 0; a
 -- reading counts places from 0 on, one component after the other. So what comes back of a written rule is its canonical form: the same
--- components with the same operators, counted so, reserved bits 0. What comes back of a rule that was read is that rule (`Again`). Assumes
--- nothing.
+-- components with the same operators, counted so, reserved bits 0. What comes back of a rule that was read is that rule (`Again`).
 use Prim.Native.Nat.{ℕ, _+_, _^_, _≤_, _<_}
 use mathlib.Core.Path.{_≡_}
 use mathlib.Core.List.{List, [], _∷_, _++_, map}
 use lib.ListN.{length, getD}
 use Rattle.ground.specs.Answers.{Answer, accepts}
-use Rattle.choices.specs.Choices.{kindOf}
-use Rattle.choices.specs.Operators.{Op}
+use Rattle.operators.specs.Ops.{kindOf, Op}
 use Rattle.rules.specs.declared.FlowSpecComponent.{FlowSpecComponent}
 use Rattle.rules.specs.declared.FlowSpecComponent.the-variants.{Nothing}
 use Rattle.rules.specs.Components.{prefixOf, listOf}

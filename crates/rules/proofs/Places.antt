@@ -1,4 +1,4 @@
--- The components of a rule by their places, and a search among them: what each turn of the loop in `holds_in` comes to. Assumes nothing.
+-- The components of a rule by their places, and a search among them: what each turn of the loop in `holds_in` comes to.
 use Prim.Native.Nat.{ℕ, suc, _+_, _≤_, _<_}
 use mathlib.Core.Path.{_≡_, sym, ap, _∙_}
 use mathlib.Core.Bool.{Bool, true, false, _||_}

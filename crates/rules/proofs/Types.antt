@@ -1,4 +1,4 @@
--- The list types one by one: what holds of each of 3 to 13 holds of every type between. A list of a type has that type. Assumes nothing.
+-- The list types one by one: what holds of each of 3 to 13 holds of every type between. A list of a type has that type.
 use Prim.Native.Nat.{ℕ, zero, suc, _+_, _-_, _≤_}
 use mathlib.Core.Path.{_≡_, refl, subst}
 use native.Mathlib.Omega.{arith}

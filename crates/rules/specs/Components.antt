@@ -1,4 +1,4 @@
--- What a component is, by its type, and what a rule is made of: document 01, "The length and the component walk"; mod.rs. Assumes nothing.
+-- What a component is, by its type, and what a rule is made of: document 01, "The length and the component walk"; mod.rs.
 use Prim.Native.Nat.{ℕ}
 use mathlib.Core.List.{List, [], _∷_, map}
 use mathlib.Core.Bool.{Bool, false, _||_, _&&_, not}

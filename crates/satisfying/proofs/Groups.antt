@@ -1,11 +1,11 @@
--- The groups of a list, read from the left: `going g os` is the answer where the group so far has the truth g. Assumes nothing.
+-- The groups of a list, read from the left: `going g os` is the answer where the group so far has the truth g.
 use Prim.Native.Nat.{ℕ, zero, suc, _+_, _-_, _≤_, _<_}
 use mathlib.Core.Path.{_≡_, refl, sym, _∙_, ap}
 use mathlib.Core.List.{List, [], _∷_}
 use mathlib.Core.Bool.{Bool, true, false, not, _&&_, _||_, false≢true, or-false}
 use native.Mathlib.Omega.{arith}
 use lib.ListN.{getD}
-use Rattle.choices.specs.Operators.{Op, op, opsIn}
+use Rattle.operators.specs.Ops.{Op, op, opsIn}
 use Rattle.satisfying.specs.declared.Test.{Test}
 use Rattle.satisfying.specs.declared.Data.{Data}
 use Rattle.satisfying.specs.declared.Data.the-variants.{Absent, One, Either}

@@ -1,4 +1,4 @@
--- A mask's truth by the tests that the code makes. Assumes nothing.
+-- A mask's truth by the tests that the code makes.
 use Prim.Native.Nat.{ℕ, _/_, _%_}
 use mathlib.Core.Path.{_≡_, sym}
 use mathlib.Core.Bool.{not}

@@ -1,15 +1,15 @@
 -- Whether a number satisfies a list of operators: document 01, "Matching and ranking"; RFC 8955, 4.2.1.1 and 4.2.1.2. A list is an OR of
 -- groups, a group an AND of operators: an operator without the AND bit starts a group, and those behind it that have the bit belong to
--- it. Reserved bits and the end mark are not looked at, nor is AND on the first operator. Assumes nothing.
+-- it. Reserved bits and the end mark are not looked at, nor is AND on the first operator.
 use Prim.Native.Nat.{ℕ, _/_, _%_}
 use mathlib.Core.List.{List, [], _∷_}
 use mathlib.Core.Bool.{Bool, true, false, not, _&&_, _||_}
 use lib.Bits.{bitAnd}
 use lib.Dec.{ltb, eqb}
 use Rattle.ground.specs.Picks.{pick}
-use Rattle.choices.specs.declared.Kind.{Kind}
-use Rattle.choices.specs.declared.Kind.the-variants.{Numeric, Bitmask}
-use Rattle.choices.specs.Operators.{Op}
+use Rattle.operators.specs.declared.Kind.{Kind}
+use Rattle.operators.specs.declared.Kind.the-variants.{Numeric, Bitmask}
+use Rattle.operators.specs.Ops.{Op}
 use Rattle.satisfying.specs.declared.Test.{Test}
 use Rattle.satisfying.specs.declared.Data.{Data}
 use Rattle.satisfying.specs.declared.Data.the-variants.{Absent, One, Either}

@@ -4,9 +4,9 @@
 ghost use mathlib.Core.Path.{_≡_};
 ghost use Prim.Native.Nat.{_+_, _≤_};
 ghost use lib.ListN.{length};
-ghost use Rattle.choices.specs.Operators.{op, opsIn};
+ghost use Rattle.operators.specs.Ops.{op, opsIn};
 ghost use Rattle.satisfying.specs.Lists.{compared, met, masked, truthOf, listMatches, dataMatch};
-use choices::Kind;
+use operators::Kind;
 
 // How a list is put to a number: by comparisons or by masks, and in which bits an operator's value counts.
 pub struct Test {

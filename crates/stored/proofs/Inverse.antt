@@ -1,5 +1,5 @@
 -- A rule that was put is what is read at its place, and what is read, put again, leaves the words as they are. Both go one place at a time along the
--- words: from what was stored to what each word is, and from each test that passed to the word that it saw. Assumes nothing.
+-- words: from what was stored to what each word is, and from each test that passed to the word that it saw.
 use Prim.Native.Nat.{ℕ, zero, suc, _+_, _-_, _*_, _/_, _%_, _^_, _≤_, _<_}
 use mathlib.Core.Path.{_≡_, refl, sym, ap, ap₂, _∙_, subst}
 use mathlib.Core.List.{List, [], _∷_, _++_, append-assoc}

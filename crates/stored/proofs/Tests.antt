@@ -1,4 +1,4 @@
--- Tests in turn: what a chain of tests comes to, by the first that fails. Assumes nothing.
+-- Tests in turn: what a chain of tests comes to, by the first that fails.
 use mathlib.Core.Path.{_≡_}
 use mathlib.Core.Bool.{Bool, true, false, _&&_}
 

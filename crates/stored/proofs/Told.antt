@@ -1,7 +1,7 @@
 -- No second answer: a refusal is known by its number and what it carries, so what is told of an answer determines it. Each case is read back from
--- what is told. Assumes nothing.
+-- what is told.
 use mathlib.Core.Path.{_≡_, refl, sym, ap, ap₂, _∙_}
-use Rattle.ground.specs.Answers.{Answer, accepts, refuses}
+use Rattle.ground.specs.Answers.{Answer, accepts, declines}
 use Rattle.refusals.proofs.Once.{faultOf, fault-back}
 use Rattle.rules.specs.declared.FlowSpecNlri.{FlowSpecNlri}
 use Rattle.stored.specs.declared.RuleAnswer.{RuleAnswer}
@@ -13,7 +13,7 @@ use Rattle.stored.specs.Stored.{StoredRule, toldAnswer, toldRead, toldSt
 
 abbrev storedOne : Answer (Unit {0}) → Stored
 storedOne (accepts u) = Done
-storedOne (refuses n l) = NotStored (faultOf n l)
+storedOne (declines f) = NotStored (faultOf (f .number) (f .carried))
 
 stored-one : (x : Stored) → storedOne (toldStored x) ≡ x
 stored-one Done = refl
@@ -24,7 +24,7 @@ one-stored x y e = sym (stored-one x) ∙ ap storedOne e ∙ stored-one y
 
 abbrev answerOne : Answer StoredRule → RuleAnswer
 answerOne (accepts s) = Accepted
-answerOne (refuses n l) = Refused (faultOf n l)
+answerOne (declines f) = Refused (faultOf (f .number) (f .carried))
 
 answer-one : (a : RuleAnswer) (s : StoredRule) → answerOne (toldAnswer a s) ≡ a
 answer-one Accepted s = refl

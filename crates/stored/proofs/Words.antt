@@ -1,4 +1,4 @@
--- Laws of stored words over plain lists: what each turn of a loop comes to, and how the stores of a rule join. Assumes nothing.
+-- Laws of stored words over plain lists: what each turn of a loop comes to, and how the stores of a rule join.
 use Prim.Native.Nat.{ℕ, zero, suc, _+_, _-_, _*_, _/_, _%_, _≤_, _<_}
 use mathlib.Core.Path.{_≡_, refl, sym, ap, ap₂, _∙_}
 use mathlib.Core.List.{List, [], _∷_, _++_, map, append-assoc}

@@ -1,13 +1,12 @@
 -- A rule in 64 words of a lent list: thirteen places of four words for the components, then the count, the family, the first place and nine words 0.
 -- Words are a component if writing what they name gives them back, and a rule if each place within the count is a component and all past it is 0.
--- Assumes nothing.
 use Prim.Native.Nat.{ℕ, zero, suc, _+_, _-_, _*_, _/_, _%_, _^_}
 use mathlib.Core.List.{List, [], _∷_, _++_, map}
 use mathlib.Core.Bool.{Bool, true, false, _&&_, _||_, not}
 use lib.ListN.{length, getD, replicate}
 use lib.Seq.{sets}
 use lib.Dec.{ltb, leb, eqb}
-use Rattle.ground.specs.Answers.{Answer, accepts, refuses}
+use Rattle.ground.specs.Answers.{Answer, accepts, refuses, declines}
 use Rattle.ground.specs.Picks.{pick}
 use Rattle.refusals.specs.Refusals.{refusal}
 use Rattle.rules.specs.declared.NetworkPrefix.{NetworkPrefix}
@@ -164,7 +163,7 @@ toldRead r = toldAnswer (r .answer) (storedOf (r .rule))
 
 abbrev pub ruleIn : Answer StoredRule → FlowSpecNlri
 ruleIn (accepts s) = ruleOf s
-ruleIn (refuses n ns) = ruleOf (storedRule [] 0 0)
+ruleIn (declines f) = ruleOf (storedRule [] 0 0)
 
 abbrev pub toldStored : Stored → Answer (Unit {0})
 toldStored Done = accepts tt

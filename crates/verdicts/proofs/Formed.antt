@@ -1,4 +1,4 @@
--- A well-formed rule is 64 words that are a rule, its operators within the lent lists: what matching and ranking ask. Assumes nothing.
+-- A well-formed rule is 64 words that are a rule, its operators within the lent lists: what matching and ranking ask.
 use Prim.Native.Nat.{ℕ, _+_, _-_, _/_, _<_}
 use mathlib.Core.Path.{_≡_, sym, ap, _∙_, subst}
 use mathlib.Core.Bool.{true, false, _&&_, false≢true}
@@ -12,7 +12,7 @@ use Rattle.ground.specs.Picks.{pick}
 use Rattle.ground.proofs.Cases.{by-test, both}
 use Rattle.choices.specs.declared.Reading.{Reading}
 use Rattle.choices.specs.declared.Reading.the-variants.{Ipv4, Ipv6}
-use Rattle.choices.specs.Operators.{Op}
+use Rattle.operators.specs.Ops.{Op}
 use Rattle.listwriting.specs.Lists.{takes}
 use Rattle.stored.specs.Stored.{StoredRule, isRule, storedAt, ruleAt}
 use Rattle.pieces.specs.Pieces.{pieceOf}

@@ -1,4 +1,4 @@
--- What a standard writing takes names places within the lent lists. An empty list could name any, and is not taken. Assumes nothing.
+-- What a standard writing takes names places within the lent lists. An empty list could name any, and is not taken.
 use Prim.Native.Nat.{ℕ, zero, suc, _+_, _≤_}
 use mathlib.Core.Path.{_≡_}
 use mathlib.Core.Bool.{true, false, false≢true}
@@ -7,7 +7,7 @@ use native.Mathlib.Omega.{arith}
 use lib.ListN.{length}
 use Rattle.ground.proofs.Cases.{both}
 use Rattle.choices.specs.declared.Reading.{Reading}
-use Rattle.choices.specs.Operators.{Op, opsIn}
+use Rattle.operators.specs.Ops.{Op, opsIn}
 use Rattle.rules.specs.declared.FlowSpecComponent.{FlowSpecComponent}
 use Rattle.rules.specs.declared.FlowSpecComponent.the-variants.{Nothing, DestinationPrefix, SourcePrefix, IpProtocol, Port, DestinationPort, SourcePort, IcmpType, IcmpCode, TcpFlags, PacketLength, Dscp, Fragment, FlowLabel}
 use Rattle.rules.specs.declared.Span.{Span}

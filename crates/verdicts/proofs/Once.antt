@@ -1,7 +1,7 @@
--- No second answer meets a contract here: an answer can be read back from what is told of it. Assumes nothing.
+-- No second answer meets a contract here: an answer can be read back from what is told of it.
 use mathlib.Core.Path.{_≡_, refl, sym, _∙_, ap}
 use mathlib.Core.Bool.{Bool}
-use Rattle.ground.specs.Answers.{Answer, accepts, refuses}
+use Rattle.ground.specs.Answers.{Answer, accepts, declines}
 use Rattle.refusals.proofs.Once.{faultOf, fault-back}
 use Rattle.ranking.specs.declared.Order.{Order}
 use Rattle.verdicts.specs.declared.Matched.{Matched}
@@ -12,7 +12,7 @@ use Rattle.verdicts.specs.Verdicts.{toldMatched, toldRanked}
 
 abbrev matchedOf : Answer Bool → Matched
 matchedOf (accepts b) = Matches b
-matchedOf (refuses n ns) = NotMatched (faultOf n ns)
+matchedOf (declines f) = NotMatched (faultOf (f .number) (f .carried))
 
 matched-back : (a : Matched) → matchedOf (toldMatched a) ≡ a
 matched-back (Matches b) = refl
@@ -23,7 +23,7 @@ matched-once a b h = sym (matched-back a) ∙ ap matchedOf h ∙ matched-back b
 
 abbrev rankedOf : Answer Order → Ranked
 rankedOf (accepts o) = Ranks o
-rankedOf (refuses n ns) = NotRanked (faultOf n ns)
+rankedOf (declines f) = NotRanked (faultOf (f .number) (f .carried))
 
 ranked-back : (a : Ranked) → rankedOf (toldRanked a) ≡ a
 ranked-back (Ranks o) = refl

@@ -1,5 +1,5 @@
 -- Well-formed in the document's words, and whatever the room: what the standard writing in the rule's own family does not refuse by 11, 10 or
--- 7. Assumes nothing.
+-- 7.
 use Prim.Native.Nat.{ℕ, _+_, _/_}
 use mathlib.Core.Path.{_≡_, _∙_}
 use mathlib.Core.Bool.{Bool, false, not, _||_}
@@ -7,7 +7,7 @@ use mathlib.Core.List.{List, map}
 use borrow.Author.Tests.{lt-leb, le-leb, ltb-true, ltb-false}
 use lib.Dec.{eqb, leb, ltb}
 use lib.ListN.{length, getD, drop}
-use Rattle.ground.specs.Answers.{Answer, accepts, refuses}
+use Rattle.ground.specs.Answers.{Answer, accepts, declines}
 use Rattle.ground.proofs.Cases.{by-test}
 use Rattle.choices.specs.declared.Reading.{Reading}
 use Rattle.choices.specs.declared.Reading.the-variants.{Ipv4, Ipv6}
@@ -22,7 +22,7 @@ use Rattle.verdicts.proofs.Ways.{fits}
 -- "refuses by 11, 10 or 7"
 abbrev pub refusesRule : Answer (List ℕ) → Bool
 refusesRule (accepts xs) = false
-refusesRule (refuses n ns) = eqb n 11 || (eqb n 10 || eqb n 7)
+refusesRule (declines f) = eqb (f .number) 11 || (eqb (f .number) 10 || eqb (f .number) 7)
 
 module _ (room : ℕ) where
   by-length : (body : List ℕ) → leb (length body) 4095 ≡ not (refusesRule (answerFor body room))

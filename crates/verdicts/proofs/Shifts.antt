@@ -1,4 +1,4 @@
--- A rule in the words from a word on is the rule at the front of what is left of them. Assumes nothing.
+-- A rule in the words from a word on is the rule at the front of what is left of them.
 use Prim.Native.Nat.{ℕ, zero, suc, _+_, _-_, _*_}
 use mathlib.Core.Path.{_≡_, refl, ap, ap₂, _∙_}
 use mathlib.Core.Bool.{Bool, _&&_}

@@ -1,4 +1,4 @@
--- The ways that the test of a rule goes, over plain lists: by its words' frame, its family and what was measured. Assumes nothing.
+-- The ways that the test of a rule goes, over plain lists: by its words' frame, its family and what was measured.
 use Prim.Native.Nat.{ℕ, _+_, _-_, _≤_, _<_}
 use mathlib.Core.Path.{_≡_, sym, ap, _∙_}
 use mathlib.Core.Bool.{Bool, true, false, _&&_}

@@ -1,11 +1,11 @@
 -- Which stored rules are well-formed, and what matching and ranking answer where they are called by themselves: each refuses as the chooser
--- does for that rule and packet. Document 01, "What comes back", the order of refusals in choosing. Assumes nothing.
+-- does for that rule and packet. Document 01, "What comes back", the order of refusals in choosing.
 use Prim.Native.Nat.{ℕ, _+_}
 use mathlib.Core.List.{List, [], _∷_}
 use mathlib.Core.Bool.{Bool, true, false, not}
 use lib.ListN.{getD, drop}
 use lib.Dec.{eqb}
-use Rattle.ground.specs.Answers.{Answer, accepts, refuses}
+use Rattle.ground.specs.Answers.{Answer, accepts, refuses, declines}
 use Rattle.ground.specs.Picks.{pick}
 use Rattle.refusals.specs.Refusals.{refusal}
 use Rattle.stored.specs.Stored.{storedAt}
@@ -22,7 +22,7 @@ use Rattle.verdicts.specs.declared.Ranked.the-variants.{Is as Ranks, Ref
 
 abbrev pub accepted : Answer (List ℕ) → Bool
 accepted (accepts xs) = true
-accepted (refuses n ns) = false
+accepted (declines f) = false
 
 -- the 64 words from a word on, by "the standard writing in the rule's own family", which is their word 53. With 4097 octets no rule is short
 -- of room, so that what is refused is refused by 11, 10 or 7 (`in-any-room` in proofs/)

@@ -1,5 +1,5 @@
 -- An accepted walk as the chain of its components: each starts where the one before it ended, below `stop`, and the last ends at `stop` or past it, within
--- the octets. So where the octets end at `stop`, every one of them is used. By induction over the walk. Assumes nothing.
+-- the octets. So where the octets end at `stop`, every one of them is used. By induction over the walk.
 use Prim.Native.Nat.{ℕ, zero, suc, _+_, _≤_, _<_}
 use mathlib.Core.Path.{_≡_, refl, subst}
 use mathlib.Core.List.{List, [], _∷_, _++_}
@@ -8,7 +8,7 @@ use native.Mathlib.Omega.{arith}
 use borrow.Author.Tests.{le-leb, lt-leb}
 use lib.ListN.{length, getD}
 use Rattle.ground.proofs.Answers.{never}
-use Rattle.ground.specs.Answers.{Answer, accepts, refuses}
+use Rattle.ground.specs.Answers.{Answer, accepts, declines}
 use Rattle.ground.proofs.Cases.{lt-or-le}
 use Rattle.choices.specs.declared.Reading.{Reading}
 use Rattle.walk.specs.Walks.{Piece, componentAt, Body, body, joined, turn, walkFrom, walkAt}
@@ -37,7 +37,7 @@ module _ (r : Reading) (s : List ℕ) (stop : ℕ) where
   by-rest at previous start p b h q (accepts d) ih e =
       let c = ih d refl in
       subst (Chained r s stop at previous start) (same e) (record { end = c .end; chain = more h q (c .chain); past = c .past; within = c .within })
-  by-rest at previous start p b h q (refuses n c) ih e = never e
+  by-rest at previous start p b h q (declines f) ih e = never e
 
   by-found : (at previous start : ℕ) (b : Body) → at < stop → (go : ℕ → ℕ → ℕ → Answer Body)
       → ((x t i : ℕ) (d : Body) → x ≤ length s → go x t i ≡ accepts d → Chained r s stop x t i d) → (a : Answer Piece) → componentAt r s at previous start ≡ a
@@ -46,7 +46,7 @@ module _ (r : Reading) (s : List ℕ) (stop : ℕ) where
       let w = here r s at previous start q in
       by-rest at previous start p b h q (go (p .next) (getD s at 0) (start + length (p .operators)))
       (λ d z. ih (p .next) (getD s at 0) (start + length (p .operators)) d (w .inside) z) e
-  by-found at previous start b h go ih (refuses n c) q e = never e
+  by-found at previous start b h go ih (declines f) q e = never e
 
   chain-from : (k at previous start : ℕ) (b : Body) → at ≤ length s → walkFrom k r s stop at previous start ≡ accepts b → Chained r s stop at previous start b
   unfolding walkFrom

@@ -1,14 +1,15 @@
 -- The ways that one component goes, over plain lists: one law for each return of `component_at` and of the functions that find a prefix's
--- end. Assumes nothing.
+-- end.
 use Prim.Native.Nat.{ℕ, _+_, _-_, _≤_, _<_}
 use mathlib.Core.Path.{_≡_, refl, sym, _∙_, ap}
 use mathlib.Core.List.{List, [], _∷_}
 use borrow.Author.Tests.{le-leb, lt-leb, lt-ltb, le-ltb}
 use lib.ListN.{length, getD}
-use Rattle.ground.specs.Answers.{Answer, accepts, refuses}
+use Rattle.ground.specs.Answers.{Answer, accepts, refuses, declines}
 use Rattle.choices.specs.declared.Reading.{Reading}
-use Rattle.choices.specs.declared.Kind.{Kind}
-use Rattle.choices.specs.Choices.{lastType, kindOf}
+use Rattle.operators.specs.declared.Kind.{Kind}
+use Rattle.choices.specs.Choices.{lastType}
+use Rattle.operators.specs.Ops.{kindOf}
 use Rattle.rules.specs.declared.NetworkPrefix.{NetworkPrefix}
 use Rattle.prefixes.specs.Prefixes.{PrefixAt, octetsAt}
 use Rattle.lists.specs.declared.Tally.{Tally}
@@ -54,11 +55,11 @@ module _ (r : Reading) (t : ℕ) (s : List ℕ) (at start : ℕ) where
 -- what is seen of a prefix and of a list
 pub seen-prefix : (t : ℕ) (a : Answer PrefixAt) → seen (prefixPiece t a) ≡ ended a
 seen-prefix t (accepts p) = refl
-seen-prefix t (refuses n c) = refl
+seen-prefix t (declines f) = refl
 
 abbrev pub measured : Answer Tally → Answer Sight
 measured (accepts l) = accepts (sight (l .count) (l .next .at))
-measured (refuses n c) = refuses n c
+measured (declines f) = declines f
 
 -- as many operators are recorded of a list as it has
 pub recorded-counts : (r : Reading) (k : Kind) (s : List ℕ) (at : ℕ) {l : Tally} → listAt r k s at ≡ accepts l → length (recordedOps r k (opsAt s at)) ≡ l .count
@@ -67,7 +68,7 @@ recorded-counts r k s at e = recorded-length r k (opsAt s at) ∙ list-counts r 
 seen-list : (r : Reading) (k : Kind) (t : ℕ) (s : List ℕ) (at start : ℕ) (a : Answer Tally) → listAt r k s at ≡ a
     → seen (listPiece t start (recordedOps r k (opsAt s at)) a) ≡ measured a
 seen-list r k t s at start (accepts l) e = ap (λ (n : ℕ). accepts (sight n (l .next .at))) (recorded-counts r k s at e)
-seen-list r k t s at start (refuses n c) e = refl
+seen-list r k t s at start (declines f) e = refl
 
 -- a component, seen
 module _ (r : Reading) (s : List ℕ) (at previous start : ℕ) (h : at < length s) (k : previous < getD s at 0) (l : getD s at 0 ≤ lastType r) where

@@ -1,5 +1,5 @@
 -- What a component that was found says of the octets, by cases over the ways that it goes: its type rises and is known, it ends past its
--- operators and within the octets. Assumes nothing.
+-- operators and within the octets.
 use Prim.Native.Nat.{ℕ, _+_, _≤_, _<_}
 use mathlib.Core.Path.{_≡_, refl, sym, _∙_, ap}
 use mathlib.Core.List.{List}
@@ -7,12 +7,13 @@ use mathlib.Core.Logic.{⊎-elim}
 use native.Mathlib.Omega.{arith}
 use lib.ListN.{length, getD}
 use Rattle.ground.proofs.Answers.{never}
-use Rattle.ground.specs.Answers.{Answer, accepts, refuses}
+use Rattle.ground.specs.Answers.{Answer, accepts, refuses, declines}
 use Rattle.ground.proofs.Cases.{lt-or-le}
 use Rattle.choices.specs.declared.Reading.{Reading}
 use Rattle.choices.specs.declared.Reading.the-variants.{Plain, Ipv4, Ipv6}
-use Rattle.choices.specs.declared.Kind.{Kind}
-use Rattle.choices.specs.Choices.{lastType, kindOf}
+use Rattle.operators.specs.declared.Kind.{Kind}
+use Rattle.choices.specs.Choices.{lastType}
+use Rattle.operators.specs.Ops.{kindOf}
 use Rattle.prefixes.specs.Prefixes.{PrefixAt}
 use Rattle.prefixes.proofs.Accepted.{plain-next, ipv4-next, ipv6-next}
 use Rattle.lists.specs.declared.Tally.{Tally}
@@ -47,14 +48,14 @@ taken e = cc
 
 by-prefix : (r : Reading) (t : ℕ) (s : List ℕ) (at : ℕ) {q : Piece} (a : Answer PrefixAt) → prefixAt r s at ≡ a → prefixPiece t a ≡ accepts q → Ends s at q
 by-prefix r t s at (accepts p) i e = let h = prefix-next r s at p i in ends-are s at 0 (p .next) (taken e) refl refl (omega arith) (h .1)
-by-prefix r t s at (refuses n c) i e = never e
+by-prefix r t s at (declines f) i e = never e
 
 by-list : (r : Reading) (k : Kind) (t : ℕ) (s : List ℕ) (at start : ℕ) {q : Piece} (a : Answer Tally) → listAt r k s at ≡ a
     → listPiece t start (recordedOps r k (opsAt s at)) a ≡ accepts q → Ends s at q
 by-list r k t s at start (accepts l) i e =
     let h = list-ends r k s at i in
     ends-are s at (l .count) (l .next .at) (taken e) (recorded-counts r k s at i) refl (omega arith) (h .1 .1)
-by-list r k t s at start (refuses n c) i e = never e
+by-list r k t s at start (declines f) i e = never e
 
 typed-ends : (r : Reading) (t : ℕ) (s : List ℕ) (at start : ℕ) {p : Piece} → typedAt r t s at start ≡ accepts p → Ends s at p
 typed-ends r t s at start e =
@@ -100,8 +101,8 @@ pub sighted : (a : Answer Piece) {n m : ℕ} → accepts (sight n m) ≡ seen a 
 sighted (accepts p) {n} {m} e =
     let z : sight n m ≡ sight (length (p .operators)) (p .next) = cc in
     record { what = p; is = refl; count = sym (ap (λ (x : Sight). x .operators) z); next = sym (ap (λ (x : Sight). x .next) z) }
-sighted (refuses n c) e = never (sym e)
+sighted (declines f) e = never (sym e)
 
 pub unseen : (a : Answer Piece) {n : ℕ} {c : List ℕ} → refuses n c ≡ seen a → a ≡ refuses n c
 unseen (accepts p) e = never e
-unseen (refuses n c) e = cc
+unseen (declines f) e = cc

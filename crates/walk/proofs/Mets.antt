@@ -1,4 +1,4 @@
--- Which refusals a walk meets, by induction over it: 1 to 4, and in the plain reading 5. So none meets 6, and a standard one no 5. Assumes nothing.
+-- Which refusals a walk meets, by induction over it: 1 to 4, and in the plain reading 5. So none meets 6, and a standard one no 5.
 use Prim.Native.Nat.{ℕ, zero, suc, _+_, _-_}
 use mathlib.Core.Path.{_≡_, refl}
 use mathlib.Core.Bool.{Bool, true, false}
@@ -6,14 +6,14 @@ use mathlib.Core.List.{List, [], _∷_}
 use native.Mathlib.Omega.{arith}
 use lib.Dec.{leb, ltb}
 use lib.ListN.{length, getD}
-use Rattle.ground.specs.Answers.{Answer, accepts, refuses}
+use Rattle.ground.specs.Answers.{Answer, accepts, refuses, declines}
 use Rattle.ground.specs.Picks.{pick}
 use Rattle.ground.proofs.Cases.{by-test}
 use Rattle.choices.specs.declared.Reading.{Reading}
 use Rattle.choices.specs.declared.Reading.the-variants.{Plain, Ipv4, Ipv6}
-use Rattle.choices.specs.declared.Kind.{Kind}
-use Rattle.choices.specs.Choices.{lastType, kindOf, refusedIn}
-use Rattle.choices.specs.Operators.{Op}
+use Rattle.operators.specs.declared.Kind.{Kind}
+use Rattle.choices.specs.Choices.{lastType, refusedIn}
+use Rattle.operators.specs.Ops.{kindOf, Op}
 use Rattle.prefixes.specs.Prefixes.{PrefixAt, octetsOf, octetsAt, boundedAt, plainPrefix, ipv4Prefix, ipv6Prefix, offsetFits, plainAt, ipv4At, ipv6At}
 use Rattle.rules.specs.declared.NetworkPrefix.{NetworkPrefix}
 use Rattle.lists.specs.declared.Tally.{Tally}
@@ -29,7 +29,7 @@ walkMeets Ipv6 n = leb n 4
 -- an answer whose refusal, if it is one, is such
 abbrev pub Met {ℓ} : {A : Type ℓ} → (ℕ → Bool) → Answer A → Type 0
 Met m (accepts x) = Unit
-Met m (refuses n c) = m n ≡ true
+Met m (declines f) = m (f .number) ≡ true
 
 early : (r : Reading) (n : ℕ) → leb n 4 ≡ true → leb n 5 ≡ true → walkMeets r n ≡ true
 early Plain n a b = b
@@ -97,11 +97,11 @@ met-list r k s at = met-from r k (length s) s at 0
 
 prefix-met : (m : ℕ → Bool) (t : ℕ) (a : Answer PrefixAt) → Met m a → Met m (prefixPiece t a)
 prefix-met m t (accepts p) h = tt
-prefix-met m t (refuses n c) h = h
+prefix-met m t (declines f) h = h
 
 list-met : (m : ℕ → Bool) (t start : ℕ) (os : List Op) (a : Answer Tally) → Met m a → Met m (listPiece t start os a)
 list-met m t start os (accepts l) h = tt
-list-met m t start os (refuses n c) h = h
+list-met m t start os (declines f) h = h
 
 met-typed : (r : Reading) (t : ℕ) (s : List ℕ) (at start : ℕ) → Met (walkMeets r) (typedAt r t s at start)
 unfolding typedAt
@@ -120,11 +120,11 @@ met-component r s at previous start =
 
 joined-met : (m : ℕ → Bool) (p : Piece) (a : Answer Body) → Met m a → Met m (joined p a)
 joined-met m p (accepts b) h = tt
-joined-met m p (refuses n c) h = h
+joined-met m p (declines f) h = h
 
 turn-met : (m : ℕ → Bool) (t start : ℕ) (a : Answer Piece) (go : ℕ → ℕ → ℕ → Answer Body) → Met m a → ((x y z : ℕ) → Met m (go x y z)) → Met m (turn t start a go)
 turn-met m t start (accepts p) go h ih = joined-met m p (go (p .next) t (start + length (p .operators))) (ih (p .next) t (start + length (p .operators)))
-turn-met m t start (refuses n c) go h ih = h
+turn-met m t start (declines f) go h ih = h
 
 walk-from : (k : ℕ) (r : Reading) (s : List ℕ) (stop at previous start : ℕ) → Met (walkMeets r) (walkFrom k r s stop at previous start)
 unfolding walkFrom

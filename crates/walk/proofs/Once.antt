@@ -1,7 +1,7 @@
--- No second answer meets a contract here: an answer can be read back from what is told of it. Assumes nothing.
+-- No second answer meets a contract here: an answer can be read back from what is told of it.
 use Prim.Native.Nat.{ℕ}
 use mathlib.Core.Path.{_≡_, refl, sym, _∙_, ap}
-use Rattle.ground.specs.Answers.{Answer, accepts, refuses}
+use Rattle.ground.specs.Answers.{Answer, accepts, declines}
 use Rattle.refusals.proofs.Once.{faultOf, fault-back}
 use Rattle.walk.specs.declared.Found.{Found}
 use Rattle.walk.specs.declared.Found.the-variants.{Component, Refused}
@@ -11,7 +11,7 @@ use Rattle.walk.specs.Walks.{Sight, toldFound, toldWalk}
 
 abbrev foundOf : Answer Sight → Found
 foundOf (accepts x) = Component (x .operators) (record { at = x .next })
-foundOf (refuses n ns) = Refused (faultOf n ns)
+foundOf (declines f) = Refused (faultOf (f .number) (f .carried))
 
 found-back : (a : Found) → foundOf (toldFound a) ≡ a
 found-back (Component n c) = refl
@@ -22,7 +22,7 @@ found-once a b h = sym (found-back a) ∙ ap foundOf h ∙ found-back b
 
 abbrev walkedOf : Answer ℕ → Walked
 walkedOf (accepts n) = Accepted n
-walkedOf (refuses n ns) = NotAccepted (faultOf n ns)
+walkedOf (declines f) = NotAccepted (faultOf (f .number) (f .carried))
 
 walked-back : (a : Walked) → walkedOf (toldWalk a) ≡ a
 walked-back (Accepted n) = refl

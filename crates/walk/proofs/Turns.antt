@@ -1,12 +1,12 @@
 -- The turns of a walk: what is left of it at a place, `rest`, goes by what is found there. What bounds the recursion is a constant less
--- the components that are passed; an invariant holds their number, which is at most the last type. Assumes nothing.
+-- the components that are passed; an invariant holds their number, which is at most the last type.
 use Prim.Native.Nat.{ℕ, suc, _+_, _-_, _≤_, _<_}
 use mathlib.Core.Path.{_≡_, refl, sym, _∙_, ap, ap₂}
 use mathlib.Core.List.{List, []}
 use native.Mathlib.Omega.{arith}
 use borrow.Author.Tests.{le-leb, lt-leb}
 use lib.ListN.{length, getD, length-append}
-use Rattle.ground.specs.Answers.{Answer, accepts, refuses}
+use Rattle.ground.specs.Answers.{Answer, accepts, refuses, declines}
 use Rattle.choices.specs.declared.Reading.{Reading}
 use Rattle.walk.specs.Walks.{Piece, componentAt, Body, body, joined, turn, walkFrom, walkAt, sight, seen, counted}
 use Rattle.walk.proofs.Heres.{Here, here, Sighted, sighted, unseen}
@@ -40,15 +40,15 @@ module _ (r : Reading) (s : List ℕ) (stop at previous start j : ℕ) (few : j 
 -- the operators of a walk of which n are passed
 abbrev pub countedOn : ℕ → Answer Body → Answer ℕ
 countedOn n (accepts b) = accepts (n + length (b .operators))
-countedOn n (refuses number carried) = refuses number carried
+countedOn n (declines f) = declines f
 
 counted-first : (a : Answer Body) → counted a ≡ countedOn 0 a
 counted-first (accepts b) = ap (λ (x : ℕ). accepts x) (omega arith)
-counted-first (refuses n c) = refl
+counted-first (declines f) = refl
 
 counted-more : (n : ℕ) (p : Piece) (a : Answer Body) → countedOn n (joined p a) ≡ countedOn (n + length (p .operators)) a
 counted-more n p (accepts b) = ap (λ (x : ℕ). accepts x) (simp length-append (omega arith))
-counted-more n p (refuses m c) = refl
+counted-more n p (declines f) = refl
 
 -- where the first walk stands: its invariant
 pub record Walking (r : Reading) (s : List ℕ) (stop at previous operators : ℕ) : Type 0 where

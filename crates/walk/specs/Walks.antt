@@ -1,17 +1,16 @@
 -- One component at a place of a body, and the walk over all of them: document 01, "The length and the component walk"; RFC 8955, 4.2. Every
 -- reading walks so. They part in the choices (`lastType`, and what `listAt` and `recordedOps` take from them) and in how a prefix is read.
--- Assumes nothing.
 use Prim.Native.Nat.{ℕ, zero, suc, _+_}
 use mathlib.Core.List.{List, [], _∷_, _++_}
 use lib.ListN.{length, getD}
 use lib.Dec.{ltb, leb}
-use Rattle.ground.specs.Answers.{Answer, accepts, refuses}
+use Rattle.ground.specs.Answers.{Answer, accepts, refuses, declines}
 use Rattle.ground.specs.Picks.{pick}
 use Rattle.refusals.specs.Refusals.{refusal}
 use Rattle.choices.specs.declared.Reading.{Reading}
 use Rattle.choices.specs.declared.Reading.the-variants.{Plain, Ipv4, Ipv6}
-use Rattle.choices.specs.Choices.{lastType, kindOf}
-use Rattle.choices.specs.Operators.{Op}
+use Rattle.choices.specs.Choices.{lastType}
+use Rattle.operators.specs.Ops.{kindOf, Op}
 use Rattle.rules.specs.declared.FlowSpecComponent.{FlowSpecComponent}
 use Rattle.rules.specs.Components.{prefixOf, listOf}
 use Rattle.prefixes.specs.Prefixes.{PrefixAt, plainAt, ipv4At, ipv6At}
@@ -39,12 +38,12 @@ piece c os next = record { component = c; operators = os; next = next }
 
 abbrev pub prefixPiece : ℕ → Answer PrefixAt → Answer Piece
 prefixPiece type (accepts p) = accepts (piece (prefixOf type (p .prefix)) [] (p .next))
-prefixPiece type (refuses number carried) = refuses number carried
+prefixPiece type (declines f) = declines f
 
 -- a list's operators go to the places from `start` on
 abbrev pub listPiece : ℕ → ℕ → List Op → Answer Tally → Answer Piece
 listPiece type start os (accepts l) = accepts (piece (listOf type (record { start = start; count = l .count })) os (l .next .at))
-listPiece type start os (refuses number carried) = refuses number carried
+listPiece type start os (declines f) = declines f
 
 -- "Types 1 and 2 are prefixes, 9 and 12 bitmask lists, the others numeric lists": what follows a type octet
 unfoldable pub typedAt : Reading → ℕ → List ℕ → ℕ → ℕ → Answer Piece
@@ -70,12 +69,12 @@ body cs os = record { components = cs; operators = os }
 
 abbrev pub joined : Piece → Answer Body → Answer Body
 joined p (accepts b) = accepts (body (p .component ∷ b .components) (p .operators ++ b .operators))
-joined p (refuses number carried) = refuses number carried
+joined p (declines f) = declines f
 
 -- what follows from a component, of which the type is given and the operators start at a place
 abbrev pub turn : ℕ → ℕ → Answer Piece → (ℕ → ℕ → ℕ → Answer Body) → Answer Body
 turn type start (accepts p) go = joined p (go (p .next) type (start + length (p .operators)))
-turn type start (refuses number carried) go = refuses number carried
+turn type start (declines f) go = declines f
 
 -- from a place on: components start before `stop`, "a last component may overrun it" where the octets go on. The first number bounds the
 -- components: their types rise from 1 to 13
@@ -101,11 +100,11 @@ toldFound (Refused f) = refusal f
 
 abbrev pub seen : Answer Piece → Answer Sight
 seen (accepts p) = accepts (sight (length (p .operators)) (p .next))
-seen (refuses number carried) = refuses number carried
+seen (declines f) = declines f
 
 abbrev pub ended : Answer PrefixAt → Answer Sight
 ended (accepts p) = accepts (sight 0 (p .next))
-ended (refuses number carried) = refuses number carried
+ended (declines f) = declines f
 
 -- and of all of them: how many operators they have
 abbrev pub toldWalk : Walked → Answer ℕ
@@ -114,4 +113,4 @@ toldWalk (NotAccepted f) = refusal f
 
 abbrev pub counted : Answer Body → Answer ℕ
 counted (accepts b) = accepts (length (b .operators))
-counted (refuses number carried) = refuses number carried
+counted (declines f) = declines f

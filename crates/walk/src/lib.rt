@@ -139,7 +139,7 @@ pub fn component_at(reading: Reading, s: &[u8], c: Cursor, previous: u8) -> Foun
     if kind <= 2 {
         return prefix_end(reading, s, body);
     }
-    match lists::measure(body, s, reading, choices::kind_of(kind)) {
+    match lists::measure(body, s, reading, operators::kind_of(kind)) {
         Listed::Done { count, next } => Found::Component {
             operators: count,
             next: next,

@@ -1,5 +1,4 @@
 -- The ways that a writing goes, over plain lists: a rule's words by their frame and their components, and the answer by what was measured.
--- Assumes nothing.
 use Prim.Native.Nat.{ℕ, _+_, _-_, _*_, _/_, _≤_, _<_}
 use mathlib.Core.Path.{_≡_, refl, sym, ap, ap₂, _∙_}
 use mathlib.Core.Bool.{Bool, true, false, _&&_}

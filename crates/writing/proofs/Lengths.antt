@@ -1,4 +1,4 @@
--- How long what is written is: one octet more than the body below 240, else two. What is written fits the output. Assumes nothing.
+-- How long what is written is: one octet more than the body below 240, else two. What is written fits the output.
 use Prim.Native.Nat.{ℕ, _+_, _≤_, _<_}
 use mathlib.Core.Path.{_≡_, refl, sym, ap, _∙_}
 use mathlib.Core.Bool.{Bool, true, false}

@@ -1,8 +1,7 @@
 -- No second answer meets a contract here: an answer can be read back from what is told of it, and the output afterwards is stated whole.
--- Assumes nothing.
 use Prim.Native.Nat.{ℕ}
 use mathlib.Core.Path.{_≡_, refl, sym, _∙_, ap}
-use Rattle.ground.specs.Answers.{Answer, accepts, refuses}
+use Rattle.ground.specs.Answers.{Answer, accepts, declines}
 use Rattle.refusals.proofs.Once.{faultOf, fault-back}
 use Rattle.writing.specs.declared.Written.{Written}
 use Rattle.writing.specs.declared.Written.the-variants.{Octets, Refused}
@@ -10,7 +9,7 @@ use Rattle.writing.specs.Writings.{toldWritten}
 
 abbrev writtenOf : Answer ℕ → Written
 writtenOf (accepts n) = Octets n
-writtenOf (refuses n ns) = Refused (faultOf n ns)
+writtenOf (declines f) = Refused (faultOf (f .number) (f .carried))
 
 written-back : (a : Written) → writtenOf (toldWritten a) ≡ a
 written-back (Octets n) = refl

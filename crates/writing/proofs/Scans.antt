@@ -1,4 +1,4 @@
--- Words that are all 0: their bits joined are 0. Assumes nothing.
+-- Words that are all 0: their bits joined are 0.
 use Prim.Native.Nat.{ℕ, suc, _+_, _-_, _≤_, _<_}
 use mathlib.Core.Path.{_≡_, refl, sym, ap, _∙_}
 use mathlib.Core.Bool.{Bool, true, false, _&&_, false≢true}

@@ -1,4 +1,4 @@
--- A rule by value, by way of its words: what was stored is what is read there. Assumes nothing.
+-- A rule by value, by way of its words: what was stored is what is read there.
 use Prim.Native.Nat.{ℕ, _+_, _*_, _/_, _≤_, _<_}
 use mathlib.Core.Path.{_≡_, refl, sym, ap, ap₂, _∙_}
 use mathlib.Core.Bool.{Bool, true, false, _||_, false≢true}
@@ -8,7 +8,7 @@ use borrow.Author.Tests.{lt-leb, ltb-false}
 use lib.Dec.{leb, ltb}
 use lib.ListN.{length, take, length-map, length-take}
 use lib.Seq.{sets}
-use Rattle.ground.specs.Answers.{Answer, accepts, refuses}
+use Rattle.ground.specs.Answers.{Refused as Told, Answer, accepts, refuses, declines}
 use Rattle.ground.specs.Picks.{pick}
 use Rattle.ground.proofs.Cases.{by-test}
 use Rattle.refusals.specs.declared.Fault.{Fault}
@@ -26,9 +26,8 @@ use Rattle.writing.proofs.Frames.{Writes, refused}
 -- a refusal is the same whatever would have been accepted
 same-refusal : {A : Type 0} (f : Fault) {n : ℕ} {ns : List ℕ} → refusal {A = A} f ≡ refuses n ns → refusal {A = ℕ} f ≡ refuses n ns
 same-refusal f {n} {ns} e =
-    let p : numberOf (f .error) ≡ n = cc in
-    let q : carriedOf (f .error) ≡ ns = cc in
-    ap₂ (λ (m : ℕ) (ms : List ℕ). refuses m ms) p q
+    let r : _≡_ {A = Told} (record { number = numberOf (f .error); carried = carriedOf (f .error) }) (record { number = n; carried = ns }) = cc in
+    ap (λ (x : Told). declines x) r
 
 second : (a b : Bool) → (a || b) ≡ false → (a ≡ false) × (b ≡ false)
 second true b e = absurd (false≢true (sym e))

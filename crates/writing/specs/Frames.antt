@@ -1,5 +1,5 @@
 -- What the functions within promise each other: a rule's words but for its components, and what is written of the components. No public
--- promise rests on this but through `Writings`. Assumes nothing.
+-- promise rests on this but through `Writings`.
 use Prim.Native.Nat.{ℕ, _-_, _*_}
 use mathlib.Core.List.{List, []}
 use mathlib.Core.Bool.{Bool, _&&_}

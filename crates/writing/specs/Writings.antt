@@ -1,11 +1,11 @@
 -- Whole rules written: document 01, "Writing" and "What comes back". The octets of a body stand in `measuring`, with the grounds of BadRecord.
--- One definition has the answer and the output: what is accepted is the octets. Assumes nothing.
+-- One definition has the answer and the output: what is accepted is the octets.
 use Prim.Native.Nat.{ℕ}
 use mathlib.Core.List.{List, [], _∷_, _++_, map}
 use mathlib.Core.Bool.{Bool, _||_}
 use lib.ListN.{length}
 use lib.Dec.{ltb, eqb}
-use Rattle.ground.specs.Answers.{Answer, accepts, refuses}
+use Rattle.ground.specs.Answers.{Answer, accepts, refuses, declines}
 use Rattle.ground.specs.Picks.{pick}
 use Rattle.refusals.specs.Refusals.{refusal}
 use Rattle.octets.specs.Lengths.{lengthOctets}
@@ -28,11 +28,11 @@ toldWritten (Refused f) = refusal f
 -- the same of an answer that has the octets, and the octets that it leaves in the output: "A refusal changes no lent octet"
 abbrev pub counted : Answer (List ℕ) → Answer ℕ
 counted (accepts xs) = accepts (length xs)
-counted (refuses n ns) = refuses n ns
+counted (declines f) = declines f
 
 abbrev pub octetsIn : Answer (List ℕ) → List ℕ
 octetsIn (accepts xs) = xs
-octetsIn (refuses n ns) = []
+octetsIn (declines f) = []
 
 -- the body after its length
 abbrev pub nlriOctets : List ℕ → List ℕ
@@ -54,7 +54,7 @@ writtenRule w s values octets room =
 -- the rule that stands at the front of lent words: words that are no rule are BadRecord
 abbrev pub onRule : Answer StoredRule → (StoredRule → Answer (List ℕ)) → Answer (List ℕ)
 onRule (accepts s) f = f s
-onRule (refuses n ns) f = refuses n ns
+onRule (declines g) f = declines g
 
 unfoldable pub writtenFrom : Reading → List ℕ → List ℕ → List ℕ → ℕ → Answer (List ℕ)
 writtenFrom w words values octets room = onRule (ruleAt words 0) (λ s. writtenRule w s values octets room)

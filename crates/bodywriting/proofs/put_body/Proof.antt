@@ -1,4 +1,4 @@
--- `bodywriting::put_body` meets its contract. `Turns.antt` has the invariant, `Stood`, and what a turn does to it. Assumes nothing.
+-- `bodywriting::put_body` meets its contract. `Turns.antt` has the invariant, `Stood`, and what a turn does to it.
 use Prim.Native.Nat.{ℕ, _+_, _-_, _*_}
 use mathlib.Core.Path.{_≡_, refl, sym, ap, _∙_}
 use native.Mathlib.Omega.{arith}
@@ -18,21 +18,17 @@ Inv-loop writing words count first values octets out₀ at p₀ i₀ out p i = S
 abbrev μ-loop : tie.MeasureT-loop
 μ-loop writing words count first values octets out₀ at p₀ i₀ out p i = count - i
 
--- src/lib.rt:154:5
 loop-holds : tie.Need-loop-holds Inv-loop μ-loop
 loop-holds c =
     let s = c .before .before .before .before in
     stood-first _ _ _ _ _ _ (s .pre .1 .0 .0) (s .pre .1 .0 .1)
 
--- src/lib.rt:155:45
 mul-piece-at : tie.Need-mul-piece-at Inv-loop μ-loop
 mul-piece-at c = omega (arith, c .before .before .before .before .before .before .pre .0)
 
--- src/lib.rt:155:13
 piece-at-requires : tie.Need-piece-at-requires Inv-loop μ-loop
 piece-at-requires c κs = omega (arith, c .before .before .before .before .before .before .pre .0)
 
--- src/lib.rt:156:9
 put-piece-requires : tie.Need-put-piece-requires Inv-loop μ-loop
 put-piece-requires c κs =
     let b = c .before in
@@ -40,15 +36,12 @@ put-piece-requires c κs =
     let s = o .before .before .before .before .before in
     (next-taken _ _ _ _ _ _ (o .loop .inv) (omega arith) (b .piece-at .ensures), next-room _ _ _ _ _ _ (o .loop .inv) (omega arith) (b .piece-at .ensures) (s .pre .1 .1))
 
--- src/lib.rt:157:9
 add-i : tie.Need-add-i Inv-loop μ-loop
 add-i c = search needs
 
--- src/lib.rt:154:5
 loop-less : tie.Need-loop-less Inv-loop μ-loop
 loop-less c = search needs
 
--- src/lib.rt:154:5
 loop-again : tie.Need-loop-again Inv-loop μ-loop
 loop-again c =
     let h = c .before .before in
@@ -56,11 +49,9 @@ loop-again c =
     let o = b .before .before in
     stood-more _ _ _ _ _ _ (o .loop .inv) (omega arith) (b .piece-at .ensures) (h .put-piece .ensures .0) (h .put-piece .ensures .1)
 
--- src/lib.rt:137:1
 same-length : tie.Need-same-length Inv-loop μ-loop
 same-length c = c .before .loop .inv .long
 
--- src/lib.rt:137:1
 returns : tie.Need-returns Inv-loop μ-loop
 returns c = stood-end _ _ _ _ _ _ (c .before .loop .inv) (omega arith)
 

@@ -1,4 +1,4 @@
--- `bodywriting::put_ipv4` meets its contract: the length, then the octets after it. Assumes nothing.
+-- `bodywriting::put_ipv4` meets its contract: the length, then the octets after it.
 use Prim.Native.Nat.{ℕ, _+_, _-_, _*_, _/_, _^_}
 use mathlib.Core.Path.{_≡_, sym, ap, _∙_}
 use native.Mathlib.Omega.{arith}
@@ -15,32 +15,26 @@ use Rattle.bodywriting.proofs.put_ipv4.Lts as lts
 use Rattle.bodywriting.proofs.put_high.Reads as put-high-reads
 use Rattle.prefixes.proofs.octets_of.Reads as octets-of-reads
 
--- src/lib.rt:45:5
 slice-write-out : tie.Need-slice-write-out
 slice-write-out c = search needs
 
--- src/lib.rt:46:16
 add-from : tie.Need-add-from
 add-from c = search needs
 
--- src/lib.rt:47:25
 octets-of-requires : tie.Need-octets-of-requires
 octets-of-requires c κs = search needs
 
--- src/lib.rt:47:5
 put-high-requires : tie.Need-put-high-requires
 put-high-requires c κs =
     let a = c .before .before .before .args in
     (omega (arith, c .octets-of .ensures), simp length-set (omega (arith, c .octets-of .ensures)))
 
--- src/lib.rt:41:1
 same-length : tie.Need-same-length
 same-length c =
     let h = c .before .before in
     let a = h .before .before .before .before .args in
     ap length (h .put-high .ensures) ∙ simp (length-sets, length-set)
 
--- src/lib.rt:41:1
 returns : tie.Need-returns
 returns c =
     let h = c .before .before in

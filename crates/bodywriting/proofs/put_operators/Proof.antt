@@ -1,11 +1,11 @@
--- `bodywriting::put_operators` meets its contract: a list that is not empty lies within the lent lists. Assumes nothing.
+-- `bodywriting::put_operators` meets its contract: a list that is not empty lies within the lent lists.
 use Prim.Native.Nat.{ℕ, _+_}
 use mathlib.Core.Path.{_≡_, refl, sym, ap, _∙_}
 use native.Mathlib.Omega.{arith}
 use lib.ListN.{length}
 use lib.Seq.{sets}
-use Rattle.choices.specs.declared.Kind.{Kind}
-use Rattle.choices.specs.Operators.{opsIn, listOctets}
+use Rattle.operators.specs.declared.Kind.{Kind}
+use Rattle.operators.specs.Ops.{opsIn, listOctets}
 use Rattle.listwriting.specs.Lists.{sizeIn}
 use Rattle.measuring.specs.Bodies.{lent, opsOf}
 use Rattle.measuring.proofs.Insides.{inside-both}
@@ -14,19 +14,16 @@ use Rattle.bodywriting.proofs.put_operators.Statement.{statement}
 use Rattle.bodywriting.proofs.put_operators.Tie as tie
 use Rattle.bodywriting.proofs.put_operators.Reads as reads
 use Rattle.bodywriting.proofs.put_operators.Lts as lts
-use Rattle.choices.proofs.kind_of.Reads as kind-of-reads
+use Rattle.operators.proofs.kind_of.Reads as kind-of-reads
 use Rattle.listwriting.proofs.put_list.Reads as put-list-reads
 
--- src/lib.rt:99:9
 returns : tie.Need-returns
 unfolding sizeIn opsIn listOctets
 returns c = rw (c .if1 .taken) (omega arith, refl)
 
--- src/lib.rt:101:9
 kind-of-requires : tie.Need-kind-of-requires
 kind-of-requires c κs = search needs
 
--- src/lib.rt:102:49
 add-put-list : tie.Need-add-put-list
 add-put-list c =
     let e = c .before in
@@ -34,7 +31,6 @@ add-put-list c =
     let a = s .args in
     omega (arith, inside-both (lent (a .values .now) (a .octets .now) (a .first)) (a .start) (a .count) (e .if1 .left) (s .pre .0) .0)
 
--- src/lib.rt:102:5
 put-list-requires : tie.Need-put-list-requires
 put-list-requires c κs =
     let e = c .before .before in
@@ -43,11 +39,9 @@ put-list-requires c κs =
     let b = inside-both (lent (a .values .now) (a .octets .now) (a .first)) (a .start) (a .count) (e .if1 .left) (s .pre .0) in
     ((b .0, b .1), s .pre .1)
 
--- src/lib.rt:83:1
 same-length : tie.Need-same-length
 same-length c = search needs
 
--- src/lib.rt:83:1
 returns-2 : tie.Need-returns-2
 returns-2 c =
     let h = c .before .before in

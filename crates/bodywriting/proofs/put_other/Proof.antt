@@ -1,4 +1,4 @@
--- `bodywriting::put_other` meets its contract, by the writing. Assumes nothing.
+-- `bodywriting::put_other` meets its contract, by the writing.
 use mathlib.Core.Path.{_≡_, sym, ap, _∙_}
 use native.Mathlib.Omega.{arith}
 use lib.ListN.{length}
@@ -15,11 +15,9 @@ use Rattle.bodywriting.proofs.put_other.Lts as lts
 use Rattle.prefixwriting.proofs.put_plain.Reads as put-plain-reads
 use Rattle.prefixwriting.proofs.put_standard.Reads as put-standard-reads
 
--- src/lib.rt:50:60
 enum-told : tie.Need-enum-told
 enum-told c = search needs
 
--- src/lib.rt:50:27
 put-plain-requires : tie.Need-put-plain-requires
 put-plain-requires c κs =
     let e = c .before in
@@ -29,11 +27,9 @@ put-plain-requires c κs =
     let n = sym (ap (λ (w : Reading). length (prefixOctets w (a .prefix))) (e .enum-told .given .1) ∙ length-plain (a .prefix)) in
     (t, omega (arith, n, s .pre .1))
 
--- src/lib.rt:51:62
 enum-told-2 : tie.Need-enum-told-2
 enum-told-2 c = search needs
 
--- src/lib.rt:51:26
 put-standard-requires : tie.Need-put-standard-requires
 put-standard-requires c κs =
     let e = c .before in
@@ -43,11 +39,9 @@ put-standard-requires c κs =
     let n = sym (ap (λ (w : Reading). length (prefixOctets w (a .prefix))) (e .enum-told2 .given .1) ∙ length-standard (a .prefix)) in
     (valid-ranged 4 (a .prefix) t, omega (arith, n, s .pre .1))
 
--- src/lib.rt:52:62
 enum-told-3 : tie.Need-enum-told-3
 enum-told-3 c = search needs
 
--- src/lib.rt:52:26
 put-standard-requires-2 : tie.Need-put-standard-requires-2
 put-standard-requires-2 c κs =
     let e = c .before in
@@ -57,11 +51,9 @@ put-standard-requires-2 c κs =
     let n = sym (ap (λ (w : Reading). length (prefixOctets w (a .prefix))) (e .enum-told3 .given .1) ∙ length-standard (a .prefix)) in
     (valid-ranged 6 (a .prefix) t, omega (arith, n, s .pre .1))
 
--- src/lib.rt:44:1
 same-length : tie.Need-same-length
 same-length c = search needs
 
--- src/lib.rt:44:1
 returns : tie.Need-returns
 returns c =
     let h = c .before .before in
@@ -69,11 +61,9 @@ returns c =
     let a = e .before .before .before .args in
     h .put-plain .ensures ∙ sym (ap (λ (w : Reading). sets (a .out .now) (a .at) (prefixOctets w (a .prefix))) (e .enum-told .given .1))
 
--- src/lib.rt:44:1
 same-length-2 : tie.Need-same-length-2
 same-length-2 c = search needs
 
--- src/lib.rt:44:1
 returns-2 : tie.Need-returns-2
 returns-2 c =
     let h = c .before .before in
@@ -81,11 +71,9 @@ returns-2 c =
     let a = e .before .before .before .args in
     h .put-standard .ensures ∙ sym (ap (λ (w : Reading). sets (a .out .now) (a .at) (prefixOctets w (a .prefix))) (e .enum-told2 .given .1))
 
--- src/lib.rt:44:1
 same-length-3 : tie.Need-same-length-3
 same-length-3 c = search needs
 
--- src/lib.rt:44:1
 returns-3 : tie.Need-returns-3
 returns-3 c =
     let h = c .before .before in

@@ -1,4 +1,4 @@
--- `bodywriting::put_piece` meets its contract: the type, then what follows it. Assumes nothing.
+-- `bodywriting::put_piece` meets its contract: the type, then what follows it.
 use Prim.Native.Nat.{ℕ, _+_}
 use mathlib.Core.Path.{_≡_, refl, sym, ap, _∙_}
 use native.Mathlib.Omega.{arith}
@@ -15,11 +15,9 @@ use Rattle.bodywriting.proofs.put_operators.Reads as put-operators-read
 use Rattle.bodywriting.proofs.put_prefix.Reads as put-prefix-reads
 use Rattle.measuring.proofs.prefix_size.Reads as prefix-size-reads
 
--- src/lib.rt:121:25
 enum-known-piece : tie.Need-enum-known-piece
 enum-known-piece c = search needs
 
--- src/lib.rt:122:13
 slice-write-out : tie.Need-slice-write-out
 slice-write-out c =
     let k = c .before in
@@ -29,11 +27,9 @@ slice-write-out c =
     let g = k .piece .given in
     omega (arith, s .pre .1, prefix-long (a .writing) l (a .piece) (g .0 .0) (g .0 .1 .0) (g .1))
 
--- src/lib.rt:123:24
 add-from : tie.Need-add-from
 add-from c = search needs
 
--- src/lib.rt:124:13
 put-prefix-requires : tie.Need-put-prefix-requires
 put-prefix-requires c κs =
     let k = c .before .before in
@@ -44,11 +40,9 @@ put-prefix-requires c κs =
     let n = prefix-long (a .writing) l (a .piece) (g .0 .0) (g .0 .1 .0) (g .1) in
     (prefix-taken (a .writing) l (a .piece) (g .0 .0) (g .0 .1 .0) (g .1) (s .pre .0), simp length-set (omega (arith, s .pre .1, n)))
 
--- src/lib.rt:125:20
 prefix-size-requires : tie.Need-prefix-size-requires
 prefix-size-requires c κs = search needs
 
--- src/lib.rt:125:13
 add-result : tie.Need-add-result
 add-result c =
     let k = c .before .before .before .before .before .before in
@@ -58,11 +52,9 @@ add-result c =
     let g = k .piece .given in
     omega (arith, s .pre .1, c .prefix-size .ensures, prefix-long (a .writing) l (a .piece) (g .0 .0) (g .0 .1 .0) (g .1))
 
--- src/lib.rt:127:28
 enum-known-piece-2 : tie.Need-enum-known-piece-2
 enum-known-piece-2 c = search needs
 
--- src/lib.rt:128:13
 slice-write-out-2 : tie.Need-slice-write-out-2
 slice-write-out-2 c =
     let k = c .before in
@@ -72,11 +64,9 @@ slice-write-out-2 c =
     let g = k .piece2 .given in
     omega (arith, s .pre .1, list-long (a .writing) l (a .piece) (g .0 .0) (g .0 .1 .0) (g .0 .1 .1 .0) (g .1))
 
--- src/lib.rt:129:24
 add-from-2 : tie.Need-add-from-2
 add-from-2 c = search needs
 
--- src/lib.rt:130:13
 put-operators-requires : tie.Need-put-operators-requires
 put-operators-requires c κs =
     let k = c .before .before in
@@ -87,11 +77,9 @@ put-operators-requires c κs =
     let n = list-long (a .writing) l (a .piece) (g .0 .0) (g .0 .1 .0) (g .0 .1 .1 .0) (g .1) in
     (list-inside (a .writing) l (a .piece) (g .0 .0) (g .0 .1 .0) (g .0 .1 .1 .0) (g .1) (s .pre .0), simp length-set (omega (arith, s .pre .1, n)))
 
--- src/lib.rt:132:28
 enum-told : tie.Need-enum-told
 enum-told c = search needs
 
--- src/lib.rt:106:1
 same-length : tie.Need-same-length
 same-length c =
     let k = c .before .before .before .before .before .before in
@@ -101,7 +89,6 @@ same-length c =
     let g = k .piece .given in
     kept (a .out .now) (a .at) (pieceOctets (a .writing) l (a .piece)) (prefix-put (a .writing) l (a .piece) (g .0 .0) (g .0 .1 .0) (g .1) (a .out .now) (a .at) (c .before .before .before .put-prefix .ensures))
 
--- src/lib.rt:106:1
 returns : tie.Need-returns
 returns c =
     let k = c .before .before .before .before .before .before in
@@ -113,7 +100,6 @@ returns c =
       prefix-put (a .writing) l (a .piece) (g .0 .0) (g .0 .1 .0) (g .1) (a .out .now) (a .at) (c .before .before .before .put-prefix .ensures),
     )
 
--- src/lib.rt:106:1
 same-length-2 : tie.Need-same-length-2
 same-length-2 c =
     let k = c .before .before .before .before .before in
@@ -123,7 +109,6 @@ same-length-2 c =
     let g = k .piece2 .given in
     kept (a .out .now) (a .at) (pieceOctets (a .writing) l (a .piece)) (list-put (a .writing) l (a .piece) (g .0 .0) (g .0 .1 .0) (g .0 .1 .1 .0) (g .1) (a .out .now) (a .at) (c .before .before .put-operators .ensures .1))
 
--- src/lib.rt:106:1
 returns-2 : tie.Need-returns-2
 returns-2 c =
     let k = c .before .before .before .before .before in
@@ -136,7 +121,6 @@ returns-2 c =
       list-put (a .writing) l (a .piece) (g .0 .0) (g .0 .1 .0) (g .0 .1 .1 .0) (g .1) (a .out .now) (a .at) (h .put-operators .ensures .1),
     )
 
--- src/lib.rt:106:1
 returns-3 : tie.Need-returns-3
 returns-3 c =
     let s = c .before .before .before .before .before in

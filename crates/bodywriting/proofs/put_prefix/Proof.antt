@@ -1,4 +1,4 @@
--- `bodywriting::put_prefix` meets its contract: an IPv4 prefix is written alike by both writings. Assumes nothing.
+-- `bodywriting::put_prefix` meets its contract: an IPv4 prefix is written alike by both writings.
 use Prim.Native.Nat.{ℕ, _+_}
 use mathlib.Core.Path.{_≡_, sym, ap, _∙_}
 use native.Mathlib.Omega.{arith}
@@ -15,11 +15,9 @@ use Rattle.bodywriting.proofs.put_prefix.Lts as lts
 use Rattle.bodywriting.proofs.put_ipv4.Reads as put-ipv4-reads
 use Rattle.bodywriting.proofs.put_other.Reads as put-other-reads
 
--- src/lib.rt:62:31
 enum-known-prefix : tie.Need-enum-known-prefix
 enum-known-prefix c = search needs
 
--- src/lib.rt:62:52
 put-ipv4-requires : tie.Need-put-ipv4-requires
 put-ipv4-requires c κs =
     let k = c .before .before in
@@ -30,35 +28,27 @@ put-ipv4-requires c κs =
     let n = ap (λ q. length (prefixOctets (a .writing) q)) (g .1) ∙ length-ipv4 (a .writing) (g .0 .0) (g .0 .1 .0) in
     (t, omega (arith, n, s .pre .1))
 
--- src/lib.rt:67:41
 enum-told : tie.Need-enum-told
 enum-told c = search needs
 
--- src/lib.rt:67:14
 put-other-requires : tie.Need-put-other-requires
 put-other-requires c κs = search needs
 
--- src/lib.rt:72:41
 enum-told-2 : tie.Need-enum-told-2
 enum-told-2 c = search needs
 
--- src/lib.rt:72:14
 put-other-requires-2 : tie.Need-put-other-requires-2
 put-other-requires-2 c κs = search needs
 
--- src/lib.rt:78:41
 enum-told-3 : tie.Need-enum-told-3
 enum-told-3 c = search needs
 
--- src/lib.rt:78:14
 put-other-requires-3 : tie.Need-put-other-requires-3
 put-other-requires-3 c κs = search needs
 
--- src/lib.rt:56:1
 same-length : tie.Need-same-length
 same-length c = search needs
 
--- src/lib.rt:56:1
 returns : tie.Need-returns
 returns c =
     let h = c .before .before in
@@ -67,27 +57,21 @@ returns c =
     let g = k .prefix .given in
     h .put-ipv4 .ensures ∙ ap (λ xs. sets (a .out .now) (a .at) xs) (sym (octets-ipv4 (a .writing) (g .0 .0) (g .0 .1 .0))) ∙ sym (ap (λ q. sets (a .out .now) (a .at) (prefixOctets (a .writing) q)) (g .1))
 
--- src/lib.rt:56:1
 same-length-2 : tie.Need-same-length-2
 same-length-2 c = search needs
 
--- src/lib.rt:56:1
 returns-2 : tie.Need-returns-2
 returns-2 c = search needs
 
--- src/lib.rt:56:1
 same-length-3 : tie.Need-same-length-3
 same-length-3 c = search needs
 
--- src/lib.rt:56:1
 returns-3 : tie.Need-returns-3
 returns-3 c = search needs
 
--- src/lib.rt:56:1
 same-length-4 : tie.Need-same-length-4
 same-length-4 c = search needs
 
--- src/lib.rt:56:1
 returns-4 : tie.Need-returns-4
 returns-4 c = search needs
 

@@ -1,4 +1,4 @@
--- `choices::first` meets its contract, by the reading. Assumes nothing.
+-- `choices::first` meets its contract, by the reading.
 use Rattle.choices.specs.Choices.{firstIn}
 use Rattle.choices.specs.declared.Reading.{Reading}
 use mathlib.Core.Path.{sym, ap}
@@ -8,43 +8,33 @@ use Rattle.choices.proofs.first.Tie as tie
 use Rattle.choices.proofs.first.Reads as reads
 use Rattle.choices.proofs.first.Lts as lts
 
--- src/lib.rt:83:27
 enum-told : tie.Need-enum-told
 enum-told c = search needs
 
--- src/lib.rt:84:26
 enum-told-2 : tie.Need-enum-told-2
 enum-told-2 c = search needs
 
--- src/lib.rt:84:26
 mul-result : tie.Need-mul-result
 mul-result c = search needs
 
--- src/lib.rt:84:26
 add-result : tie.Need-add-result
 add-result c = search needs
 
--- src/lib.rt:85:26
 enum-told-3 : tie.Need-enum-told-3
 enum-told-3 c = search needs
 
--- src/lib.rt:85:26
 mul-result-2 : tie.Need-mul-result-2
 mul-result-2 c = search needs
 
--- src/lib.rt:85:26
 add-result-2 : tie.Need-add-result-2
 add-result-2 c = search needs
 
--- src/lib.rt:79:1
 returns : tie.Need-returns
 returns c = search needs
 
--- src/lib.rt:79:1
 returns-2 : tie.Need-returns-2
 returns-2 c = sym (ap (λ (r : Reading). firstIn r (c .before .before .args .octet)) (c .enum-told2 .given .1))
 
--- src/lib.rt:79:1
 returns-3 : tie.Need-returns-3
 returns-3 c = sym (ap (λ (r : Reading). firstIn r (c .before .before .args .octet)) (c .enum-told3 .given .1))
 

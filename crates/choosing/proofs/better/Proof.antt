@@ -1,4 +1,4 @@
--- `choosing::better` meets its contract: the rule at the place is well-formed, and so is the best so far. Assumes nothing.
+-- `choosing::better` meets its contract: the rule at the place is well-formed, and so is the best so far.
 use Rattle.choosing.specs.Choosing.{table}
 use Rattle.choosing.specs.Passes.{betterOf}
 use Rattle.verdicts.proofs.Formed.{rankable}
@@ -15,55 +15,42 @@ use Rattle.choosing.proofs.better.Lts as lts
 use Rattle.matching.proofs.rule_matches.Reads as rule-matches-reads
 use Rattle.ranking.proofs.compare_rules.Reads as compare-rules-reads
 
--- src/lib.rt:73:39
 mul-rule-matches : tie.Need-mul-rule-matches
 mul-rule-matches c = search needs
 
--- src/lib.rt:73:9
 rule-matches-requires : tie.Need-rule-matches-requires
 rule-matches-requires c κs = let s = c .before .before .before in let a = s .args in let t = table (a .words .now) (a .values .now) (a .octets .now) in let r = rankable (a .words .now) (a .values .now) (a .octets .now) _ (s .pre .0 (a .i) (s .pre .1 .1)) in (r .whole, r .rule)
 
--- src/lib.rt:74:9
 returns : tie.Need-returns
 returns c = let m = sym (c .before .rule-matches .ensures) ∙ not-true _ (c .if1 .taken) in simp m
 
--- src/lib.rt:77:9
 returns-2 : tie.Need-returns-2
 returns-2 c = let m = sym (c .before .before .rule-matches .ensures) ∙ not-false _ (c .before .if1 .left) in simp (m, le-leb _ _ (c .if2 .taken))
 
--- src/lib.rt:81:9
 mul-compare-rules : tie.Need-mul-compare-rules
 mul-compare-rules c = search needs
 
--- src/lib.rt:85:9
 mul-compare-rules-2 : tie.Need-mul-compare-rules-2
 mul-compare-rules-2 c = search needs
 
--- src/lib.rt:79:11
 compare-rules-requires : tie.Need-compare-rules-requires
 compare-rules-requires c κs = let s = c .before .before .before .before .before .before in let a = s .args in let t = table (a .words .now) (a .values .now) (a .octets .now) in let l = c .if2 .left in (rankable (a .words .now) (a .values .now) (a .octets .now) _ (s .pre .0 (a .i) (s .pre .1 .1)), rankable (a .words .now) (a .values .now) (a .octets .now) _ (s .pre .0 (a .best) (omega arith)))
 
--- src/lib.rt:89:28
 enum-told : tie.Need-enum-told
 enum-told c = search needs
 
--- src/lib.rt:90:25
 enum-told-2 : tie.Need-enum-told-2
 enum-told-2 c = search needs
 
--- src/lib.rt:91:27
 enum-told-3 : tie.Need-enum-told-3
 enum-told-3 c = search needs
 
--- src/lib.rt:60:1
 returns-3 : tie.Need-returns-3
 returns-3 c = let k = c .before .before in let m = sym (k .before .before .before .rule-matches .ensures) ∙ not-false _ (k .before .before .if1 .left) in let o = ap isBefore (sym (k .compare-rules .ensures) ∙ c .enum-told .given .1) in simp (m, lt-leb _ _ (k .before .if2 .left), o)
 
--- src/lib.rt:60:1
 returns-4 : tie.Need-returns-4
 returns-4 c = let k = c .before .before in let m = sym (k .before .before .before .rule-matches .ensures) ∙ not-false _ (k .before .before .if1 .left) in let o = ap isBefore (sym (k .compare-rules .ensures) ∙ c .enum-told2 .given .1) in simp (m, lt-leb _ _ (k .before .if2 .left), o)
 
--- src/lib.rt:60:1
 returns-5 : tie.Need-returns-5
 returns-5 c = let k = c .before .before in let m = sym (k .before .before .before .rule-matches .ensures) ∙ not-false _ (k .before .before .if1 .left) in let o = ap isBefore (sym (k .compare-rules .ensures) ∙ c .enum-told3 .given .1) in simp (m, lt-leb _ _ (k .before .if2 .left), o)
 

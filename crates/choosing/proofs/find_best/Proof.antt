@@ -1,4 +1,4 @@
--- `choosing::find_best` meets its contract: the invariant is `Finds`, the best of those that were passed. Assumes nothing.
+-- `choosing::find_best` meets its contract: the invariant is `Finds`, the best of those that were passed.
 use borrow.Author.Needs.{needs}
 use Rattle.choosing.specs.Choosing.{table}
 use Rattle.choosing.proofs.Steps.{Finds, finds-start, finds-on, finds-end}
@@ -17,27 +17,21 @@ Inv-loop words values octets p n best₀ i₀ best i = Finds (table words values
 abbrev μ-loop : tie.MeasureT-loop
 μ-loop words values octets p n best₀ i₀ best i = n - i
 
--- src/lib.rt:103:5
 loop-holds : tie.Need-loop-holds Inv-loop μ-loop
 loop-holds c = finds-start _ _ _
 
--- src/lib.rt:104:9
 better-requires : tie.Need-better-requires Inv-loop μ-loop
 better-requires c κs = let o = c .before in let s = o .before .before .before .before in (s .pre .0, (s .pre .1, c .loop-test .taken, o .loop .inv .most))
 
--- src/lib.rt:105:9
 add-i : tie.Need-add-i Inv-loop μ-loop
 add-i c = search needs
 
--- src/lib.rt:103:5
 loop-less : tie.Need-loop-less Inv-loop μ-loop
 loop-less c = search needs
 
--- src/lib.rt:103:5
 loop-again : tie.Need-loop-again Inv-loop μ-loop
 loop-again c = let o = c .before .before in finds-on _ _ _ _ _ (o .loop .inv) (c .before .loop-test .taken) _ (c .better .ensures)
 
--- src/lib.rt:96:1
 returns : tie.Need-returns Inv-loop μ-loop
 returns c = finds-end _ _ _ _ _ (c .before .loop .inv) (c .loop-test .left)
 

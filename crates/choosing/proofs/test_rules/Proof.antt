@@ -1,4 +1,4 @@
--- `choosing::test_rules` meets its contract: the invariant is `Tests`, that all before are well-formed. Assumes nothing.
+-- `choosing::test_rules` meets its contract: the invariant is `Tests`, that all before are well-formed.
 use borrow.Author.Needs.{needs}
 use Rattle.choosing.specs.Choosing.{table}
 use Rattle.choosing.proofs.Steps.{Tests, tests-start, tests-on, tests-end, tests-bad}
@@ -19,55 +19,42 @@ Inv-loop words values octets family n mixed₀ i₀ mixed i = Tests (table words
 abbrev μ-loop : tie.MeasureT-loop
 μ-loop words values octets family n mixed₀ i₀ mixed i = n - i
 
--- src/lib.rt:49:5
 loop-holds : tie.Need-loop-holds Inv-loop μ-loop
 loop-holds c = tests-start _ _ _
 
--- src/lib.rt:50:42
 mul-well-formed : tie.Need-mul-well-formed Inv-loop μ-loop
 mul-well-formed c = search needs
 
--- src/lib.rt:50:13
 well-formed-requires : tie.Need-well-formed-requires Inv-loop μ-loop
 well-formed-requires c κs = search needs
 
--- src/lib.rt:51:13
 returns : tie.Need-returns Inv-loop μ-loop
 returns c = tests-bad _ _ _ _ (c .before .before .loop-test .taken) (sym (c .before .well-formed .ensures) ∙ not-true _ (c .if1 .taken))
 
--- src/lib.rt:53:50
 mul-first-failing : tie.Need-mul-first-failing Inv-loop μ-loop
 mul-first-failing c = search needs
 
--- src/lib.rt:53:50
 add-first-failing : tie.Need-add-first-failing Inv-loop μ-loop
 add-first-failing c = search needs
 
--- src/lib.rt:53:44
 mul-first-failing-2 : tie.Need-mul-first-failing-2 Inv-loop μ-loop
 mul-first-failing-2 c = search needs
 
--- src/lib.rt:53:44
 shared-slice-read-first-failing : tie.Need-shared-slice-read-first-failing Inv-loop μ-loop
 shared-slice-read-first-failing c = search needs
 
--- src/lib.rt:53:9
 first-failing-requires : tie.Need-first-failing-requires Inv-loop μ-loop
 first-failing-requires c κs = search needs
 
--- src/lib.rt:54:9
 add-i : tie.Need-add-i Inv-loop μ-loop
 add-i c = search needs
 
--- src/lib.rt:49:5
 loop-less : tie.Need-loop-less Inv-loop μ-loop
 loop-less c = search needs
 
--- src/lib.rt:49:5
 loop-again : tie.Need-loop-again Inv-loop μ-loop
 loop-again c = let e = c .before .before in let w = e .before in let o = w .before .before in tests-on _ _ _ _ _ (o .loop .inv) (w .before .loop-test .taken) (sym (w .well-formed .ensures) ∙ not-false _ (e .if1 .left)) _ (c .first-failing .ensures)
 
--- src/lib.rt:43:1
 returns-2 : tie.Need-returns-2 Inv-loop μ-loop
 returns-2 c = tests-end _ _ _ _ _ (c .before .loop .inv) (c .loop-test .left)
 

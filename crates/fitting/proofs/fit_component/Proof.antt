@@ -1,4 +1,4 @@
--- `fitting::fit_component` meets its contract, by the component. Assumes nothing.
+-- `fitting::fit_component` meets its contract, by the component.
 use mathlib.Core.Path.{sym, subst}
 use Rattle.stored.proofs.Inverse.{Fit}
 use borrow.Author.Needs.{needs}
@@ -11,19 +11,15 @@ use Rattle.fitting.proofs.fit_prefix.Reads as fit-prefix-reads
 enum-told : tie.Need-enum-told
 enum-told c = search needs
 
--- src/lib.rt:36:46
 enum-known-component : tie.Need-enum-known-component
 enum-known-component c = search needs
 
--- src/lib.rt:36:57
 fit-prefix-requires : tie.Need-fit-prefix-requires
 fit-prefix-requires c κs = search needs
 
--- src/lib.rt:37:41
 enum-known-component-2 : tie.Need-enum-known-component-2
 enum-known-component-2 c = search needs
 
--- src/lib.rt:37:52
 fit-prefix-requires-2 : tie.Need-fit-prefix-requires-2
 fit-prefix-requires-2 c κs = search needs
 
@@ -60,59 +56,45 @@ enum-told-11 c = search needs
 enum-told-12 : tie.Need-enum-told-12
 enum-told-12 c = search needs
 
--- src/lib.rt:31:1
 returns : tie.Need-returns
 returns c = subst Fit (sym (c .enum-told .given .1)) tt
 
--- src/lib.rt:31:1
 returns-2 : tie.Need-returns-2
 returns-2 c = subst Fit (sym (c .before .before .component .given .1)) (c .fit-prefix .ensures)
 
--- src/lib.rt:31:1
 returns-3 : tie.Need-returns-3
 returns-3 c = subst Fit (sym (c .before .before .component2 .given .1)) (c .fit-prefix2 .ensures)
 
--- src/lib.rt:31:1
 returns-4 : tie.Need-returns-4
 returns-4 c = subst Fit (sym (c .enum-told2 .given .1)) tt
 
--- src/lib.rt:31:1
 returns-5 : tie.Need-returns-5
 returns-5 c = subst Fit (sym (c .enum-told3 .given .1)) tt
 
--- src/lib.rt:31:1
 returns-6 : tie.Need-returns-6
 returns-6 c = subst Fit (sym (c .enum-told4 .given .1)) tt
 
--- src/lib.rt:31:1
 returns-7 : tie.Need-returns-7
 returns-7 c = subst Fit (sym (c .enum-told5 .given .1)) tt
 
--- src/lib.rt:31:1
 returns-8 : tie.Need-returns-8
 returns-8 c = subst Fit (sym (c .enum-told6 .given .1)) tt
 
--- src/lib.rt:31:1
 returns-9 : tie.Need-returns-9
 returns-9 c = subst Fit (sym (c .enum-told7 .given .1)) tt
 
--- src/lib.rt:31:1
 returns-10 : tie.Need-returns-10
 returns-10 c = subst Fit (sym (c .enum-told8 .given .1)) tt
 
--- src/lib.rt:31:1
 returns-11 : tie.Need-returns-11
 returns-11 c = subst Fit (sym (c .enum-told9 .given .1)) tt
 
--- src/lib.rt:31:1
 returns-12 : tie.Need-returns-12
 returns-12 c = subst Fit (sym (c .enum-told10 .given .1)) tt
 
--- src/lib.rt:31:1
 returns-13 : tie.Need-returns-13
 returns-13 c = subst Fit (sym (c .enum-told11 .given .1)) tt
 
--- src/lib.rt:31:1
 returns-14 : tie.Need-returns-14
 returns-14 c = subst Fit (sym (c .enum-told12 .given .1)) tt
 

@@ -1,4 +1,4 @@
--- `fitting::fit_prefix` meets its contract: each arm is told its fields' widths. Assumes nothing.
+-- `fitting::fit_prefix` meets its contract: each arm is told its fields' widths.
 use mathlib.Core.Path.{sym, subst}
 use native.Mathlib.Omega.{arith}
 use Rattle.stored.proofs.Inverse.{FitPrefix}
@@ -8,35 +8,27 @@ use Rattle.fitting.proofs.fit_prefix.Tie as tie
 use Rattle.fitting.proofs.fit_prefix.Reads as reads
 use Rattle.fitting.proofs.fit_prefix.Lts as lts
 
--- src/lib.rt:15:31
 enum-known-prefix : tie.Need-enum-known-prefix
 enum-known-prefix c = search needs
 
--- src/lib.rt:16:31
 enum-known-prefix-2 : tie.Need-enum-known-prefix-2
 enum-known-prefix-2 c = search needs
 
--- src/lib.rt:18:13
 enum-known-prefix-3 : tie.Need-enum-known-prefix-3
 enum-known-prefix-3 c = search needs
 
--- src/lib.rt:23:13
 enum-known-prefix-4 : tie.Need-enum-known-prefix-4
 enum-known-prefix-4 c = search needs
 
--- src/lib.rt:11:1
 returns : tie.Need-returns
 returns c = subst FitPrefix (sym (c .before .prefix .given .1)) (omega (arith, c .known-told .given), omega (arith, c .known-told .given))
 
--- src/lib.rt:11:1
 returns-2 : tie.Need-returns-2
 returns-2 c = subst FitPrefix (sym (c .before .prefix2 .given .1)) (omega (arith, c .known-told2 .given))
 
--- src/lib.rt:11:1
 returns-3 : tie.Need-returns-3
 returns-3 c = subst FitPrefix (sym (c .before .prefix3 .given .1)) (omega (arith, c .known-told3 .given), omega (arith, c .known-told3 .given), omega (arith, c .known-told3 .given))
 
--- src/lib.rt:11:1
 returns-4 : tie.Need-returns-4
 returns-4 c = subst FitPrefix (sym (c .before .prefix4 .given .1)) (omega (arith, c .known-told4 .given), omega (arith, c .known-told4 .given))
 

@@ -1,4 +1,4 @@
--- `fitting::fit_slots` meets its contract. The invariant: the components so far fit. Assumes nothing.
+-- `fitting::fit_slots` meets its contract. The invariant: the components so far fit.
 use Prim.Native.Nat.{ℕ, _-_, _≤_}
 use mathlib.Core.Path.{_≡_, sym, subst}
 use native.Mathlib.Omega.{arith}
@@ -19,38 +19,30 @@ Inv-loop count slots i₀ i = (i ≤ count) × FitAll (covered i slots)
 abbrev μ-loop : tie.MeasureT-loop
 μ-loop count slots i₀ i = count - i
 
--- src/lib.rt:57:5
 loop-holds : tie.Need-loop-holds Inv-loop μ-loop
 loop-holds c = (omega arith, tt)
 
--- src/lib.rt:58:20
 mul-slot : tie.Need-mul-slot Inv-loop μ-loop
 mul-slot c = search needs
 
--- src/lib.rt:58:20
 array-copy-out-slot : tie.Need-array-copy-out-slot Inv-loop μ-loop
 array-copy-out-slot c = search needs
 
--- src/lib.rt:60:9
 fit-component-requires : tie.Need-fit-component-requires Inv-loop μ-loop
 fit-component-requires c κs = search needs
 
--- src/lib.rt:61:9
 add-i : tie.Need-add-i Inv-loop μ-loop
 add-i c = search needs
 
--- src/lib.rt:57:5
 loop-less : tie.Need-loop-less Inv-loop μ-loop
 loop-less c = search needs
 
--- src/lib.rt:57:5
 loop-again : tie.Need-loop-again Inv-loop μ-loop
 loop-again c =
     let o = c .before .before .before in
     let a = o .before .args in
     (omega arith, subst (λ (j : ℕ). FitAll (covered j (a .t1))) (sym (add-one (o .loop .i))) (fit-more (o .loop .i) (a .t1) (omega arith) (o .loop .inv .1) (c .fit-component .ensures)))
 
--- src/lib.rt:52:1
 returns : tie.Need-returns Inv-loop μ-loop
 returns c =
     let o = c .before in

@@ -1,4 +1,4 @@
--- `krubbadin::krubbadin_read` meets its contract: the number names no reading, or the reading that it names goes. Assumes nothing.
+-- `krubbadin::krubbadin_read` meets its contract: the number names no reading, or the reading that it names goes.
 use Rattle.krubbadin.proofs.Posts.{named}
 use Rattle.krubbadin.specs.Surface.{readAnswer, toldWhich}
 use mathlib.Core.Path.{refl, sym, ap, _∙_}
@@ -12,43 +12,33 @@ use Rattle.krubbadin.proofs.read_answer.Reads as read-answer-reads
 use Rattle.krubbadin.proofs.refused.Reads as refused-reads
 use Rattle.reading.proofs.read_into.Reads as read-into-reads
 
--- src/lib.rt:86:11
 named-by-requires : tie.Need-named-by-requires
 named-by-requires c κs = search needs
 
--- src/lib.rt:87:19
 enum-known-reading : tie.Need-enum-known-reading
 enum-known-reading c = search needs
 
--- src/lib.rt:87:43
 read-into-requires : tie.Need-read-into-requires
 read-into-requires c κs = search needs
 
--- src/lib.rt:87:31
 read-answer-requires : tie.Need-read-answer-requires
 read-answer-requires c κs = search needs
 
--- src/lib.rt:94:24
 enum-known-fault : tie.Need-enum-known-fault
 enum-known-fault c = search needs
 
--- src/lib.rt:94:34
 refused-requires : tie.Need-refused-requires
 refused-requires c κs = search needs
 
--- src/lib.rt:73:1
 same-length : tie.Need-same-length
 same-length c = search needs
 
--- src/lib.rt:73:1
 same-length-2 : tie.Need-same-length-2
 same-length-2 c = search needs
 
--- src/lib.rt:73:1
 same-length-3 : tie.Need-same-length-3
 same-length-3 c = search needs
 
--- src/lib.rt:73:1
 returns : tie.Need-returns
 returns c =
     let u = c .before .before .before .before .before .before .before in
@@ -59,7 +49,6 @@ returns c =
     (sym (ap toldWhich (k .reading .given .1)) ∙ w .named-by .ensures)
     (c .read-answer .ensures ∙ ap readAnswer (u .read-into .ensures .0), u .read-into .ensures .1)
 
--- src/lib.rt:73:1
 returns-2 : tie.Need-returns-2
 returns-2 c =
     let k = c .before .before in

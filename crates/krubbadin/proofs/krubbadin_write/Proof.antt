@@ -1,4 +1,4 @@
--- `krubbadin::krubbadin_write` meets its contract: the number names no writing, or the writing that it names goes. Assumes nothing.
+-- `krubbadin::krubbadin_write` meets its contract: the number names no writing, or the writing that it names goes.
 use Rattle.krubbadin.proofs.Posts.{named-writing}
 use Rattle.krubbadin.specs.Surface.{writtenAnswer, toldWhich}
 use mathlib.Core.Path.{refl, sym, ap, _∙_}
@@ -12,35 +12,27 @@ use Rattle.krubbadin.proofs.refused.Reads as refused-reads
 use Rattle.krubbadin.proofs.write_answer.Reads as write-answer-reads
 use Rattle.writing.proofs.write_from.Reads as write-from-reads
 
--- src/lib.rt:126:11
 named-by-requires : tie.Need-named-by-requires
 named-by-requires c κs = search needs
 
--- src/lib.rt:127:19
 enum-known-writing : tie.Need-enum-known-writing
 enum-known-writing c = search needs
 
--- src/lib.rt:127:44
 write-from-requires : tie.Need-write-from-requires
 write-from-requires c κs = search needs
 
--- src/lib.rt:127:31
 write-answer-requires : tie.Need-write-answer-requires
 write-answer-requires c κs = search needs
 
--- src/lib.rt:134:24
 enum-known-fault : tie.Need-enum-known-fault
 enum-known-fault c = search needs
 
--- src/lib.rt:134:34
 refused-requires : tie.Need-refused-requires
 refused-requires c κs = search needs
 
--- src/lib.rt:115:1
 same-length : tie.Need-same-length
 same-length c = search needs
 
--- src/lib.rt:115:1
 returns : tie.Need-returns
 returns c =
     let u = c .before .before .before in
@@ -51,7 +43,6 @@ returns c =
     (sym (ap toldWhich (k .writing .given .1)) ∙ w .named-by .ensures)
     (c .write-answer .ensures ∙ ap writtenAnswer (u .write-from .ensures .0), u .write-from .ensures .1)
 
--- src/lib.rt:115:1
 returns-2 : tie.Need-returns-2
 returns-2 c =
     let k = c .before .before in

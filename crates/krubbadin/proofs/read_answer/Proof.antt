@@ -1,4 +1,4 @@
--- `krubbadin::read_answer` meets its contract, by the answer. Assumes nothing.
+-- `krubbadin::read_answer` meets its contract, by the answer.
 use Rattle.krubbadin.specs.Surface.{readAnswer}
 use Rattle.reading.specs.Readings.{toldInto}
 use Rattle.reading.specs.declared.ReadInto.{ReadInto}
@@ -10,23 +10,18 @@ use Rattle.krubbadin.proofs.read_answer.Reads as reads
 use Rattle.krubbadin.proofs.read_answer.Lts as lts
 use Rattle.krubbadin.proofs.refused.Reads as refused-reads
 
--- src/lib.rt:39:26
 enum-known-r : tie.Need-enum-known-r
 enum-known-r c = search needs
 
--- src/lib.rt:44:27
 enum-known-r-2 : tie.Need-enum-known-r-2
 enum-known-r-2 c = search needs
 
--- src/lib.rt:44:37
 refused-requires : tie.Need-refused-requires
 refused-requires c κs = search needs
 
--- src/lib.rt:35:1
 returns : tie.Need-returns
 returns c = sym (ap (λ (x : ReadInto). readAnswer (toldInto x)) (c .before .r .given .1))
 
--- src/lib.rt:35:1
 returns-2 : tie.Need-returns-2
 returns-2 c = c .refused .ensures ∙ sym (ap (λ (x : ReadInto). readAnswer (toldInto x)) (c .before .before .r2 .given .1))
 

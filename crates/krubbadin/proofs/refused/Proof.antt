@@ -1,4 +1,4 @@
--- `krubbadin::refused` meets its contract. Assumes nothing.
+-- `krubbadin::refused` meets its contract.
 use borrow.Author.Needs.{needs}
 use Rattle.krubbadin.proofs.refused.Statement.{statement}
 use Rattle.krubbadin.proofs.refused.Tie as tie
@@ -8,23 +8,18 @@ use Rattle.refusals.proofs.first_carried.Reads as first-carried-reads
 use Rattle.refusals.proofs.number.Reads as number-reads
 use Rattle.refusals.proofs.second_carried.Reads as second-carried-reads
 
--- src/lib.rt:29:17
 number-requires : tie.Need-number-requires
 number-requires c κs = search needs
 
--- src/lib.rt:29:17
 cast-t4 : tie.Need-cast-t4
 cast-t4 c = search needs
 
--- src/lib.rt:30:16
 first-carried-requires : tie.Need-first-carried-requires
 first-carried-requires c κs = search needs
 
--- src/lib.rt:31:17
 second-carried-requires : tie.Need-second-carried-requires
 second-carried-requires c κs = search needs
 
--- src/lib.rt:24:1
 returns : tie.Need-returns
 returns c = simp (c .before .before .number .ensures, c .before .first-carried .ensures, c .second-carried .ensures)
 

@@ -1,4 +1,4 @@
--- `krubbadin::write_answer` meets its contract, by the answer. Assumes nothing.
+-- `krubbadin::write_answer` meets its contract, by the answer.
 use Rattle.krubbadin.specs.Surface.{writtenAnswer}
 use Rattle.writing.specs.Writings.{toldWritten}
 use Rattle.writing.specs.declared.Written.{Written}
@@ -10,23 +10,18 @@ use Rattle.krubbadin.proofs.write_answer.Reads as reads
 use Rattle.krubbadin.proofs.write_answer.Lts as lts
 use Rattle.krubbadin.proofs.refused.Reads as refused-reads
 
--- src/lib.rt:104:25
 enum-known-r : tie.Need-enum-known-r
 enum-known-r c = search needs
 
--- src/lib.rt:109:26
 enum-known-r-2 : tie.Need-enum-known-r-2
 enum-known-r-2 c = search needs
 
--- src/lib.rt:109:36
 refused-requires : tie.Need-refused-requires
 refused-requires c κs = search needs
 
--- src/lib.rt:100:1
 returns : tie.Need-returns
 returns c = sym (ap (λ (x : Written). writtenAnswer (toldWritten x)) (c .before .r .given .1))
 
--- src/lib.rt:100:1
 returns-2 : tie.Need-returns-2
 returns-2 c = c .refused .ensures ∙ sym (ap (λ (x : Written). writtenAnswer (toldWritten x)) (c .before .before .r2 .given .1))
 

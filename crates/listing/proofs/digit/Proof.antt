@@ -1,4 +1,4 @@
--- `listing::digit` meets its contract. Assumes nothing.
+-- `listing::digit` meets its contract.
 use borrow.Author.Tests.{lt-ltb, le-ltb}
 use borrow.Author.Needs.{needs}
 use Rattle.listing.proofs.digit.Statement.{statement}

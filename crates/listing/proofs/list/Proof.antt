@@ -1,4 +1,4 @@
--- `listing::list` meets its contract: `Answers.antt` has what it holds once the input is read, and what it answers. Assumes nothing.
+-- `listing::list` meets its contract: `Answers.antt` has what it holds once the input is read, and what it answers.
 use Prim.Native.Nat.{ℕ}
 use mathlib.Core.Path.{ap, _∙_}
 use mathlib.Core.List.{List}

@@ -1,4 +1,4 @@
--- `listing::list_whole` meets its contract: no listing is longer than the output. Assumes nothing.
+-- `listing::list_whole` meets its contract: no listing is longer than the output.
 use native.Mathlib.Omega.{arith}
 use Rattle.listing.proofs.Answers.{whole-listing, never-refused}
 use borrow.Author.Needs.{needs}

@@ -1,4 +1,4 @@
--- `listing::put` meets its contract: a store past the output's end changes nothing. Assumes nothing.
+-- `listing::put` meets its contract: a store past the output's end changes nothing.
 use mathlib.Core.Path.{sym}
 use lib.Seq.{set-out}
 use borrow.Author.Needs.{needs}

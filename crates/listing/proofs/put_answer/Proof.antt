@@ -1,4 +1,4 @@
--- `listing::put_answer` meets its contract: by what was read. Assumes nothing.
+-- `listing::put_answer` meets its contract: by what was read.
 use mathlib.Core.Path.{sym, ap}
 use Rattle.rules.specs.Components.{componentsOf}
 use Rattle.reading.specs.Readings.{toldInto}

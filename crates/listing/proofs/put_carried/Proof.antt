@@ -1,4 +1,4 @@
--- `listing::put_carried` meets its contract: by how many numbers there are. Assumes nothing.
+-- `listing::put_carried` meets its contract: by how many numbers there are.
 use Prim.Native.Nat.{ℕ}
 use mathlib.Core.Path.{_≡_, sym, ap, _∙_}
 use mathlib.Core.List.{_++_}

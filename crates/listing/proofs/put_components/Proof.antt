@@ -1,4 +1,4 @@
--- `listing::put_components` meets its contract: `Lines.antt` has what is left after so many components. Assumes nothing.
+-- `listing::put_components` meets its contract: `Lines.antt` has what is left after so many components.
 use Prim.Native.Nat.{_-_, _≤_, _<_}
 use native.Mathlib.Omega.{arith}
 use Rattle.rules.specs.Components.{covered}

@@ -1,4 +1,4 @@
--- `listing::put_decimal` meets its contract. `Digits.antt` has the invariant, `Down`, and what a turn does to it. Assumes nothing.
+-- `listing::put_decimal` meets its contract. `Digits.antt` has the invariant, `Down`, and what a turn does to it.
 use mathlib.Core.Path.{_∙_}
 use Rattle.listing.proofs.Joins.{kept}
 use Rattle.listing.proofs.Digits.{Down, down-first, down-room, down-more, last-room, down-last}

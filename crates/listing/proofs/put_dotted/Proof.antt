@@ -1,4 +1,4 @@
--- `listing::put_dotted` meets its contract: the four octets and the dots between them in turn. Assumes nothing.
+-- `listing::put_dotted` meets its contract: the four octets and the dots between them in turn.
 use native.Mathlib.Omega.{arith}
 use lib.ListN.{length-append}
 use Rattle.listing.specs.Texts.{dotted}

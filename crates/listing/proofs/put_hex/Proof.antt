@@ -1,4 +1,4 @@
--- `listing::put_hex` meets its contract: the two digits in turn. Assumes nothing.
+-- `listing::put_hex` meets its contract: the two digits in turn.
 use Rattle.listing.proofs.Joins.{joins}
 use borrow.Author.Needs.{needs}
 use Rattle.listing.proofs.put_hex.Statement.{statement}

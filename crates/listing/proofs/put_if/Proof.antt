@@ -1,4 +1,4 @@
--- `listing::put_if` meets its contract. Assumes nothing.
+-- `listing::put_if` meets its contract.
 use mathlib.Core.Path.{refl}
 use borrow.Author.Needs.{needs}
 use Rattle.listing.proofs.put_if.Statement.{statement}

@@ -1,4 +1,4 @@
--- `listing::put_number_line` meets its contract: the key, the number and the newline in turn. Assumes nothing.
+-- `listing::put_number_line` meets its contract: the key, the number and the newline in turn.
 use native.Mathlib.Omega.{arith}
 use lib.ListN.{length-append}
 use Rattle.listing.specs.Listings.{numberLine}

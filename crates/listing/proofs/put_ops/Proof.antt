@@ -1,6 +1,6 @@
--- `listing::put_ops` meets its contract: `Lines.antt` has what is left after so many operators. Assumes nothing.
+-- `listing::put_ops` meets its contract: `Lines.antt` has what is left after so many operators.
 use Prim.Native.Nat.{_-_, _≤_}
-use Rattle.choices.specs.Operators.{opsIn}
+use Rattle.operators.specs.Ops.{opsIn}
 use Rattle.listing.specs.Listings.{opLines}
 use Rattle.listing.proofs.Joins.{Left, left-first, left-same, left-room, left-more, left-end}
 use Rattle.listing.proofs.Lines.{opsLeft, ops-first, ops-none, ops-more}

@@ -1,8 +1,8 @@
--- `listing::put_piece` meets its contract: its lines in turn. Assumes nothing.
+-- `listing::put_piece` meets its contract: its lines in turn.
 use mathlib.Core.Path.{sym, ap, subst}
 use mathlib.Core.List.{_++_}
 use lib.ListN.{length}
-use Rattle.choices.specs.Operators.{opsIn}
+use Rattle.operators.specs.Ops.{opsIn}
 use Rattle.listing.specs.Listings.{typeLine, opsLine, opLines, prefixLine, pieceLines}
 use Rattle.listing.specs.Puts.{Within}
 use Rattle.listing.proofs.Joins.{put-none, put-same, room-same, room-first, room-rest, joins}

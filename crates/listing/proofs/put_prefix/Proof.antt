@@ -1,4 +1,4 @@
--- `listing::put_prefix` meets its contract: the IPv4 form alone has a line. Assumes nothing.
+-- `listing::put_prefix` meets its contract: the IPv4 form alone has a line.
 use mathlib.Core.Path.{sym, ap}
 use Rattle.listing.specs.Listings.{prefixLine}
 use Rattle.listing.proofs.Joins.{put-none, put-same, room-same}

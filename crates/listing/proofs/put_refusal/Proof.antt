@@ -1,4 +1,4 @@
--- `listing::put_refusal` meets its contract: its lines in turn. Assumes nothing.
+-- `listing::put_refusal` meets its contract: its lines in turn.
 use Prim.Native.Nat.{ℕ}
 use mathlib.Core.Path.{ap}
 use native.Mathlib.Omega.{arith}

@@ -1,4 +1,4 @@
--- `listing::put_text` meets its contract: what is left to put is what is left of the text. Assumes nothing.
+-- `listing::put_text` meets its contract: what is left to put is what is left of the text.
 use Prim.Native.Nat.{ℕ, _+_, _-_, _≤_, _<_}
 use mathlib.Core.Path.{subst}
 use mathlib.Core.List.{List, [], _∷_, _++_}

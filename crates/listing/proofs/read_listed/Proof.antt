@@ -1,4 +1,4 @@
--- `listing::read_listed` meets its contract: `Readings.antt` has the two ways that it goes. Assumes nothing.
+-- `listing::read_listed` meets its contract: `Readings.antt` has the two ways that it goes.
 use mathlib.Core.Path.{refl}
 use Rattle.listing.proofs.Readings.{over-long, as-read}
 use borrow.Author.Needs.{needs}

@@ -1,4 +1,4 @@
--- `lists::fill` meets its contract: the first operator is stored as the reading records it, the others by `fill_on`. Assumes nothing.
+-- `lists::fill` meets its contract: the first operator is stored as the reading records it, the others by `fill_on`.
 use Prim.Native.Nat.{_+_, _<_}
 use mathlib.Core.Path.{_∙_, ap}
 use native.Mathlib.Omega.{arith}
@@ -10,7 +10,7 @@ use Rattle.lists.proofs.fill.Statement.{statement}
 use Rattle.lists.proofs.fill.Tie as tie
 use Rattle.lists.proofs.fill.Reads as reads
 use Rattle.lists.proofs.fill.Lts as lts
-use Rattle.choices.proofs.cleared.Reads as cleared-reads
+use Rattle.operators.proofs.cleared.Reads as cleared-reads
 use Rattle.choices.proofs.first.Reads as first-reads
 use Rattle.lists.proofs.fill_on.Reads as fill-on-reads
 use Rattle.octets.proofs.read_value.Reads as read-value-reads

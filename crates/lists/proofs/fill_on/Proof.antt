@@ -1,5 +1,5 @@
 -- `lists::fill_on` meets its contract. The invariant: what is to be stored is what has been, and what is left at the place; a turn is a run
--- and one operator more. Assumes nothing.
+-- and one operator more.
 use Prim.Native.Nat.{_+_, _-_, _<_}
 use native.Mathlib.Omega.{arith}
 use borrow.Author.Needs.{needs, scaled-fits}
@@ -10,7 +10,7 @@ use Rattle.lists.proofs.fill_on.Statement.{statement}
 use Rattle.lists.proofs.fill_on.Tie as tie
 use Rattle.lists.proofs.fill_on.Reads as reads
 use Rattle.lists.proofs.fill_on.Lts as lts
-use Rattle.choices.proofs.cleared.Reads as cleared-reads
+use Rattle.operators.proofs.cleared.Reads as cleared-reads
 use Rattle.lists.proofs.fill_width.Reads as fill-width-reads
 use Rattle.octets.proofs.read_value.Reads as read-value-reads
 use Rattle.octets.proofs.stride.Reads as stride-reads

@@ -1,4 +1,4 @@
--- `lists::fill_run` meets its contract, which is the loop's invariant too. Assumes nothing.
+-- `lists::fill_run` meets its contract, which is the loop's invariant too.
 use Prim.Native.Nat.{_+_, _-_, _<_}
 use mathlib.Core.Path.{_≡_, sym, _∙_}
 use native.Mathlib.Omega.{arith}

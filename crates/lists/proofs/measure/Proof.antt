@@ -1,5 +1,5 @@
 -- `lists::measure` meets its contract. The invariant: the whole list is what is left of it at the place, after n operators. A turn is one
--- step of any kind and then a run of ordinary ones, of which `measure_run` says that they change nothing of what is left. Assumes nothing.
+-- step of any kind and then a run of ordinary ones, of which `measure_run` says that they change nothing of what is left.
 use Prim.Native.Nat.{_+_, _-_, _≤_}
 use mathlib.Core.Path.{_≡_, refl, sym, _∙_}
 use native.Mathlib.Omega.{arith}
@@ -8,7 +8,7 @@ use lib.ListN.{length, getD, take, drop}
 use Rattle.octets.specs.Spell.{valueOf}
 use Rattle.octets.specs.Widths.{widthOf}
 use Rattle.choices.specs.declared.Reading.{Reading}
-use Rattle.choices.specs.declared.Kind.{Kind}
+use Rattle.operators.specs.declared.Kind.{Kind}
 use Rattle.choices.specs.Choices.{limitOf}
 use Rattle.choices.proofs.Limits.{is-refused, is-taken}
 use Rattle.lists.specs.Lists.{operator, stepAt, listAt}

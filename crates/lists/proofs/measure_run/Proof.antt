@@ -1,4 +1,4 @@
--- `lists::measure_run` meets its contract, which is the loop's invariant too. Assumes nothing.
+-- `lists::measure_run` meets its contract, which is the loop's invariant too.
 use Prim.Native.Nat.{_-_}
 use mathlib.Core.Path.{refl}
 use native.Mathlib.Omega.{arith}

@@ -1,4 +1,4 @@
--- `listwriting::ended` meets its contract. The invariant: the list is right just if what is left of it is. Assumes nothing.
+-- `listwriting::ended` meets its contract. The invariant: the list is right just if what is left of it is.
 use Prim.Native.Nat.{ℕ, _-_, _<_}
 use mathlib.Core.Path.{_≡_, refl, sym, _∙_}
 use native.Mathlib.Omega.{arith}
@@ -17,55 +17,44 @@ Inv-loop values octets from to q₀ q = (q < to) × (rest values octets from to 
 abbrev μ-loop : tie.MeasureT-loop
 μ-loop values octets from to q₀ q = to - q
 
--- src/lib.rt:93:5
 loop-holds : tie.Need-loop-holds Inv-loop μ-loop
 loop-holds c = (omega arith, refl)
 
--- src/lib.rt:94:21
 shared-slice-read-octet : tie.Need-shared-slice-read-octet Inv-loop μ-loop
 shared-slice-read-octet c = search needs
 
--- src/lib.rt:95:25
 mul-fits : tie.Need-mul-fits Inv-loop μ-loop
 mul-fits c = search needs
 
--- src/lib.rt:95:25
 shared-slice-read-fits : tie.Need-shared-slice-read-fits Inv-loop μ-loop
 shared-slice-read-fits c = search needs
 
--- src/lib.rt:95:13
 fits-requires : tie.Need-fits-requires Inv-loop μ-loop
 fits-requires c κs = search needs
 
--- src/lib.rt:96:13
 returns : tie.Need-returns Inv-loop μ-loop
 returns c =
     let l = c .before .before .before .before in
     sym (l .loop .inv .1 ∙ turn-bad _ _ _ _ (l .loop .inv .0) (sym (c .before .fits2 .ensures) ∙ not-true _ (c .if1 .taken)))
 
--- src/lib.rt:98:9
 add-q : tie.Need-add-q Inv-loop μ-loop
 add-q c = search needs
 
--- src/lib.rt:100:13
 returns-2 : tie.Need-returns-2 Inv-loop μ-loop
 returns-2 c =
     let e = c .before in
     let l = e .before .before .before .before in
     sym (l .loop .inv .1 ∙ turn-last _ _ _ _ (l .loop .inv .0) (sym (e .before .fits2 .ensures) ∙ not-false _ (e .if1 .left)) (c .if2 .taken))
 
--- src/lib.rt:103:13
 returns-3 : tie.Need-returns-3 Inv-loop μ-loop
 returns-3 c =
     let e = c .before .before in
     let l = e .before .before .before .before in
     sym (l .loop .inv .1 ∙ turn-early _ _ _ _ (l .loop .inv .0) (sym (e .before .fits2 .ensures) ∙ not-false _ (e .if1 .left)) (c .before .if2 .left) (c .if3 .taken))
 
--- src/lib.rt:93:5
 loop-less : tie.Need-loop-less Inv-loop μ-loop
 loop-less c = search needs
 
--- src/lib.rt:93:5
 loop-again : tie.Need-loop-again Inv-loop μ-loop
 loop-again c =
     let e = c .before .before in

@@ -1,4 +1,4 @@
--- `listwriting::fits` meets its contract: the table of largest values is one less than the powers. Assumes nothing.
+-- `listwriting::fits` meets its contract: the table of largest values is one less than the powers.
 use Prim.Native.Nat.{_/_, _%_, _<_}
 use native.Mathlib.Omega.{arith}
 use Rattle.listwriting.proofs.Marks.{fits-by}
@@ -8,19 +8,15 @@ use Rattle.listwriting.proofs.fits.Tie as tie
 use Rattle.listwriting.proofs.fits.Reads as reads
 use Rattle.listwriting.proofs.fits.Lts as lts
 
--- src/lib.rt:39:16
 cast-code : tie.Need-cast-code
 cast-code c = search needs
 
--- src/lib.rt:40:14
 mul-result : tie.Need-mul-result
 mul-result c = search needs
 
--- src/lib.rt:40:14
 array-read-result : tie.Need-array-read-result
 array-read-result c = search needs
 
--- src/lib.rt:36:1
 returns : tie.Need-returns
 returns c = let h : c .args .octet / 16 % 4 < 4 = omega arith in fits-by (c .args .octet / 16 % 4) (c .args .value) h
 

@@ -1,4 +1,4 @@
--- `listwriting::joined` meets its contract. The invariant: the values so far are at most the bits so far. Assumes nothing.
+-- `listwriting::joined` meets its contract. The invariant: the values so far are at most the bits so far.
 use Prim.Native.Nat.{ℕ, _-_, _≤_}
 use native.Mathlib.Omega.{arith}
 use Rattle.listwriting.specs.Runs.{Within}
@@ -15,34 +15,27 @@ Inv-loop values from to sum₀ q₀ sum q = Within values sum from q
 abbrev μ-loop : tie.MeasureT-loop
 μ-loop values from to sum₀ q₀ sum q = to - q
 
--- src/lib.rt:64:5
 loop-holds : tie.Need-loop-holds Inv-loop μ-loop
 loop-holds c i f t = absurd (omega arith)
 
--- src/lib.rt:65:21
 mul-sum : tie.Need-mul-sum Inv-loop μ-loop
 mul-sum c = search needs
 
--- src/lib.rt:65:21
 shared-slice-read-sum : tie.Need-shared-slice-read-sum Inv-loop μ-loop
 shared-slice-read-sum c = search needs
 
--- src/lib.rt:66:9
 add-q : tie.Need-add-q Inv-loop μ-loop
 add-q c = search needs
 
--- src/lib.rt:64:5
 loop-less : tie.Need-loop-less Inv-loop μ-loop
 loop-less c = search needs
 
--- src/lib.rt:64:5
 loop-again : tie.Need-loop-again Inv-loop μ-loop
 loop-again c =
     let o = c .before .before in
     let a = o .before .args in
     within-more (a .values .now) (o .loop .sum) (a .from) (o .loop .q) (o .loop .inv)
 
--- src/lib.rt:58:1
 returns : tie.Need-returns Inv-loop μ-loop
 returns c i f t = c .before .loop .inv i f (omega arith)
 

@@ -1,4 +1,4 @@
--- `listwriting::one_width` meets its contract. The invariant: it holds of the octets so far. Assumes nothing.
+-- `listwriting::one_width` meets its contract. The invariant: it holds of the octets so far.
 use Prim.Native.Nat.{ℕ, _-_, _≤_}
 use mathlib.Core.Path.{_≡_}
 use mathlib.Core.Bool.{true}
@@ -17,34 +17,27 @@ Inv-loop octets from to code same₀ q₀ same q = same ≡ true → Alike octet
 abbrev μ-loop : tie.MeasureT-loop
 μ-loop octets from to code same₀ q₀ same q = to - q
 
--- src/lib.rt:50:5
 loop-holds : tie.Need-loop-holds Inv-loop μ-loop
 loop-holds c e i f t = absurd (omega arith)
 
--- src/lib.rt:51:24
 shared-slice-read-same : tie.Need-shared-slice-read-same Inv-loop μ-loop
 shared-slice-read-same c = search needs
 
--- src/lib.rt:51:55
 shared-slice-read-same-2 : tie.Need-shared-slice-read-same-2 Inv-loop μ-loop
 shared-slice-read-same-2 c = search needs
 
--- src/lib.rt:52:9
 add-q : tie.Need-add-q Inv-loop μ-loop
 add-q c = search needs
 
--- src/lib.rt:50:5
 loop-less : tie.Need-loop-less Inv-loop μ-loop
 loop-less c = search needs
 
--- src/lib.rt:50:5
 loop-again : tie.Need-loop-again Inv-loop μ-loop
 loop-again c =
     let o = c .before .before .before in
     let a = o .before .args in
     alike-more (a .octets .now) (a .code) (a .from) (o .loop .q) (o .loop .same) (o .loop .inv)
 
--- src/lib.rt:44:1
 returns : tie.Need-returns Inv-loop μ-loop
 returns c e i f t = c .before .loop .inv e i f (omega arith)
 

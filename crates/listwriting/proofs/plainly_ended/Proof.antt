@@ -1,4 +1,4 @@
--- `listwriting::plainly_ended` meets its contract: where it says yes, each value is at most what the one width holds. Assumes nothing.
+-- `listwriting::plainly_ended` meets its contract: where it says yes, each value is at most what the one width holds.
 use Prim.Native.Nat.{ℕ, _-_, _/_, _%_, _<_}
 use mathlib.Core.Path.{refl}
 use mathlib.Core.Bool.{false≢true}
@@ -14,47 +14,36 @@ use Rattle.listwriting.proofs.plainly_ended.Lts as lts
 use Rattle.listwriting.proofs.joined.Reads as joined-reads
 use Rattle.listwriting.proofs.one_width.Reads as one-width-reads
 
--- src/lib.rt:76:23
 sub-last : tie.Need-sub-last
 sub-last c = search needs
 
--- src/lib.rt:76:16
 shared-slice-read-last : tie.Need-shared-slice-read-last
 shared-slice-read-last c = search needs
 
--- src/lib.rt:78:9
 returns : tie.Need-returns
 returns c e = absurd (false≢true e)
 
--- src/lib.rt:81:33
 sub-one-width : tie.Need-sub-one-width
 sub-one-width c = search needs
 
--- src/lib.rt:81:9
 one-width-requires : tie.Need-one-width-requires
 one-width-requires c κs = search needs
 
--- src/lib.rt:82:9
 returns-2 : tie.Need-returns-2
 returns-2 c e = absurd (false≢true e)
 
--- src/lib.rt:84:5
 joined-requires : tie.Need-joined-requires
 joined-requires c κs = search needs
 
--- src/lib.rt:84:38
 cast-result : tie.Need-cast-result
 cast-result c = search needs
 
--- src/lib.rt:84:33
 mul-result : tie.Need-mul-result
 mul-result c = search needs
 
--- src/lib.rt:84:33
 array-read-result : tie.Need-array-read-result
 array-read-result c = search needs
 
--- src/lib.rt:72:1
 returns-3 : tie.Need-returns-3
 returns-3 c e =
     let s = c .before .before .before .before .before .before .before in

@@ -1,11 +1,11 @@
--- `listwriting::put_list` meets its contract. `Put` is the invariant; each run is a link of the chain. Assumes nothing.
+-- `listwriting::put_list` meets its contract. `Put` is the invariant; each run is a link of the chain.
 use Prim.Native.Nat.{ℕ, _+_, _-_, _≤_}
 use mathlib.Core.Path.{_≡_, refl, sym, ap, _∙_}
 use mathlib.Core.List.{List}
 use native.Mathlib.Omega.{arith}
 use lib.ListN.{length}
 use lib.Seq.{sets}
-use Rattle.choices.specs.Operators.{opsIn, listOctets}
+use Rattle.operators.specs.Ops.{opsIn, listOctets}
 use Rattle.listwriting.specs.Lists.{sizeIn}
 use Rattle.listwriting.specs.Runs.{Put}
 use Rattle.listwriting.proofs.Puts.{put-first, put-end, put-chain, put-left}
@@ -25,36 +25,29 @@ Inv-loop kind values octets from count out₀ at to p₀ q₀ out p q = Put kind
 abbrev μ-loop : tie.MeasureT-loop
 μ-loop kind values octets from count out₀ at to p₀ q₀ out p q = to - q
 
--- src/lib.rt:204:14
 add-to : tie.Need-add-to Inv-loop μ-loop
 add-to c = search needs
 
--- src/lib.rt:207:5
 loop-holds : tie.Need-loop-holds Inv-loop μ-loop
 loop-holds c = put-first _ _ _ _ _ _ _ (omega arith)
 
--- src/lib.rt:208:13
 put-same-requires : tie.Need-put-same-requires Inv-loop μ-loop
 put-same-requires c κs =
     let l = c .before .before in
     let s = l .before .before .before .before in
     ((omega arith, omega (arith, s .pre .0 .0), omega (arith, s .pre .0 .1)), put-left _ _ _ _ _ _ _ (l .loop .inv) (rw (added (s .args .from) (s .args .count)) (s .pre .1)))
 
--- src/lib.rt:207:5
 loop-less : tie.Need-loop-less Inv-loop μ-loop
 loop-less c = omega (arith, c .before .before .put-same .ensures .1, c .before .before .put-same .ensures .0 .most)
 
--- src/lib.rt:207:5
 loop-again : tie.Need-loop-again Inv-loop μ-loop
 loop-again c =
     let w = c .before .before in
     put-chain _ _ _ _ _ _ _ (w .before .before .before .loop .inv) (w .put-same .ensures .0)
 
--- src/lib.rt:190:1
 same-length : tie.Need-same-length Inv-loop μ-loop
 same-length c = c .before .loop .inv .long
 
--- src/lib.rt:190:1
 returns : tie.Need-returns Inv-loop μ-loop
 returns c =
     let l = c .before in

@@ -1,4 +1,4 @@
--- `listwriting::put_run` meets its contract. `Put` is the invariant, while the next operator has the width. Assumes nothing.
+-- `listwriting::put_run` meets its contract. `Put` is the invariant, while the next operator has the width.
 use Prim.Native.Nat.{ℕ, _+_, _-_, _<_}
 use mathlib.Core.Path.{_≡_, refl, sym, ap, _∙_}
 use native.Mathlib.Omega.{arith}
@@ -12,7 +12,7 @@ use Rattle.listwriting.proofs.put_run.Statement.{statement}
 use Rattle.listwriting.proofs.put_run.Tie as tie
 use Rattle.listwriting.proofs.put_run.Reads as reads
 use Rattle.listwriting.proofs.put_run.Lts as lts
-use Rattle.choices.proofs.cleared.Reads as cleared-reads
+use Rattle.operators.proofs.cleared.Reads as cleared-reads
 use Rattle.octets.proofs.write_value.Reads as write-value-reads
 
 abbrev Inv-loop : tie.InvT-loop
@@ -21,66 +21,54 @@ Inv-loop kind values octets from to out₀ at code width p₀ q₀ out p q = Put
 abbrev μ-loop : tie.MeasureT-loop
 μ-loop kind values octets from to out₀ at code width p₀ q₀ out p q = to - q
 
--- src/lib.rt:152:5
 loop-holds : tie.Need-loop-holds Inv-loop μ-loop
 loop-holds c = (put-first _ _ _ _ _ _ _ (omega arith), omega arith, c .before .before .before .pre .1 .0 .0)
 
--- src/lib.rt:153:41
 shared-slice-read-cleared : tie.Need-shared-slice-read-cleared Inv-loop μ-loop
 shared-slice-read-cleared c = search needs
 
--- src/lib.rt:153:18
 cleared-requires : tie.Need-cleared-requires Inv-loop μ-loop
 cleared-requires c κs = search needs
 
--- src/lib.rt:153:9
 slice-write-out : tie.Need-slice-write-out Inv-loop μ-loop
 slice-write-out c =
     let l = c .before .before in
     let s = l .before .before .before .before in
     omega (arith, put-room _ _ _ _ _ _ _ (l .loop .inv .0) _ _ (s .pre .1 .0 .1) (l .loop .inv .1) (l .loop .inv .2) (s .pre .1 .1))
 
--- src/lib.rt:154:34
 add-write-value : tie.Need-add-write-value Inv-loop μ-loop
 add-write-value c =
     let l = c .before .before .before in
     let s = l .before .before .before .before in
     omega (arith, put-room _ _ _ _ _ _ _ (l .loop .inv .0) _ _ (s .pre .1 .0 .1) (l .loop .inv .1) (l .loop .inv .2) (s .pre .1 .1))
 
--- src/lib.rt:154:47
 mul-write-value : tie.Need-mul-write-value Inv-loop μ-loop
 mul-write-value c = search needs
 
--- src/lib.rt:154:47
 shared-slice-read-write-value : tie.Need-shared-slice-read-write-value Inv-loop μ-loop
 shared-slice-read-write-value c = search needs
 
--- src/lib.rt:154:9
 write-value-requires : tie.Need-write-value-requires Inv-loop μ-loop
 write-value-requires c κs =
     let l = c .before .before .before .before in
     let s = l .before .before .before .before in
     (omega (arith, l .loop .inv .2), simp length-set (put-room _ _ _ _ _ _ _ (l .loop .inv .0) _ _ (s .pre .1 .0 .1) (l .loop .inv .1) (l .loop .inv .2) (s .pre .1 .1)))
 
--- src/lib.rt:155:13
 add-p : tie.Need-add-p Inv-loop μ-loop
 add-p c =
     let l = c .before .before .before .before .before .before .before in
     let s = l .before .before .before .before in
     omega (arith, put-room _ _ _ _ _ _ _ (l .loop .inv .0) _ _ (s .pre .1 .0 .1) (l .loop .inv .1) (l .loop .inv .2) (s .pre .1 .1))
 
--- src/lib.rt:155:13
 add-p-2 : tie.Need-add-p-2 Inv-loop μ-loop
 add-p-2 c =
     let l = c .before .before .before .before .before .before .before in
     let s = l .before .before .before .before in
     omega (arith, put-room _ _ _ _ _ _ _ (l .loop .inv .0) _ _ (s .pre .1 .0 .1) (l .loop .inv .1) (l .loop .inv .2) (s .pre .1 .1), s .pre .1 .0 .1)
 
--- src/lib.rt:156:9
 add-q : tie.Need-add-q Inv-loop μ-loop
 add-q c = search needs
 
--- src/lib.rt:158:13
 same-length : tie.Need-same-length Inv-loop μ-loop
 same-length c =
     let w = c .before .before .before in
@@ -88,7 +76,6 @@ same-length c =
     let s = l .before .before .before .before in
     put-more _ _ _ _ _ _ _ (l .loop .inv .0) _ _ (s .pre .1 .0 .1) (l .loop .inv .1) (l .loop .inv .2) (w .before .before .before .cleared .ensures) (w .write-value .ensures) .long
 
--- src/lib.rt:158:13
 returns : tie.Need-returns Inv-loop μ-loop
 returns c =
     let w = c .before .before .before in
@@ -96,11 +83,9 @@ returns c =
     let s = l .before .before .before .before in
     (put-more _ _ _ _ _ _ _ (l .loop .inv .0) _ _ (s .pre .1 .0 .1) (l .loop .inv .1) (l .loop .inv .2) (w .before .before .before .cleared .ensures) (w .write-value .ensures), omega (arith, l .loop .inv .0 .least))
 
--- src/lib.rt:160:12
 shared-slice-read-if2 : tie.Need-shared-slice-read-if2 Inv-loop μ-loop
 shared-slice-read-if2 c = search needs
 
--- src/lib.rt:161:13
 same-length-2 : tie.Need-same-length-2 Inv-loop μ-loop
 same-length-2 c =
     let w = c .before .before .before .before .before in
@@ -108,7 +93,6 @@ same-length-2 c =
     let s = l .before .before .before .before in
     put-more _ _ _ _ _ _ _ (l .loop .inv .0) _ _ (s .pre .1 .0 .1) (l .loop .inv .1) (l .loop .inv .2) (w .before .before .before .cleared .ensures) (w .write-value .ensures) .long
 
--- src/lib.rt:161:13
 returns-2 : tie.Need-returns-2 Inv-loop μ-loop
 returns-2 c =
     let w = c .before .before .before .before .before in
@@ -116,11 +100,9 @@ returns-2 c =
     let s = l .before .before .before .before in
     (put-more _ _ _ _ _ _ _ (l .loop .inv .0) _ _ (s .pre .1 .0 .1) (l .loop .inv .1) (l .loop .inv .2) (w .before .before .before .cleared .ensures) (w .write-value .ensures), omega (arith, l .loop .inv .0 .least))
 
--- src/lib.rt:152:5
 loop-less : tie.Need-loop-less Inv-loop μ-loop
 loop-less c = search needs
 
--- src/lib.rt:152:5
 loop-again : tie.Need-loop-again Inv-loop μ-loop
 loop-again c =
     let w = c .before .before .before .before .before in

@@ -1,5 +1,5 @@
 -- `listwriting::size` meets its contract. The invariant: what was counted and what is left are the whole, where each operator's own octet is counted
--- ahead. Assumes nothing.
+-- ahead.
 use Prim.Native.Nat.{ℕ, _+_, _-_, _*_, _≤_}
 use mathlib.Core.Path.{_≡_, refl, ap}
 use native.Mathlib.Omega.{arith}
@@ -21,40 +21,32 @@ Inv-loop octets from count to n₀ q₀ n q = (to ≡ from + count) × (from ≤
 abbrev μ-loop : tie.MeasureT-loop
 μ-loop octets from count to n₀ q₀ n q = to - q
 
--- src/lib.rt:25:14
 add-to : tie.Need-add-to Inv-loop μ-loop
 add-to c = search needs
 
--- src/lib.rt:28:5
 loop-holds : tie.Need-loop-holds Inv-loop μ-loop
 loop-holds c =
     let a = c .before .args in
     let e : a .from + a .count - a .from ≡ a .count = omega arith in
     (refl, omega arith, omega arith, omega arith, rw e (omega arith))
 
--- src/lib.rt:29:29
 shared-slice-read-stride : tie.Need-shared-slice-read-stride Inv-loop μ-loop
 shared-slice-read-stride c = search needs
 
--- src/lib.rt:29:14
 stride-requires : tie.Need-stride-requires Inv-loop μ-loop
 stride-requires c κs = search needs
 
--- src/lib.rt:29:9
 add-n : tie.Need-add-n Inv-loop μ-loop
 add-n c =
     let l = c .before .before .before in
     omega (arith, c .stride .ensures, width-most (getD (l .before .before .args .octets .now) (l .loop .q) 0))
 
--- src/lib.rt:30:9
 add-q : tie.Need-add-q Inv-loop μ-loop
 add-q c = search needs
 
--- src/lib.rt:28:5
 loop-less : tie.Need-loop-less Inv-loop μ-loop
 loop-less c = search needs
 
--- src/lib.rt:28:5
 loop-again : tie.Need-loop-again Inv-loop μ-loop
 loop-again c =
     let l = c .before .before .before in
@@ -64,7 +56,6 @@ loop-again c =
     let m = size-more os (l .loop .q) (a .from + a .count) (omega arith) in
     (l .loop .inv .0, omega arith, omega arith, omega (arith, width-most (getD os (l .loop .q) 0), w), omega (arith, w, m))
 
--- src/lib.rt:21:1
 returns : tie.Need-returns Inv-loop μ-loop
 returns c =
     let l = c .before in

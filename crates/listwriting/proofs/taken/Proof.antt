@@ -1,4 +1,4 @@
--- `listwriting::taken` meets its contract: a list that the quick test does not find right is tested in full. Assumes nothing.
+-- `listwriting::taken` meets its contract: a list that the quick test does not find right is tested in full.
 use mathlib.Core.Path.{sym, _∙_}
 use native.Mathlib.Omega.{arith}
 use Rattle.listwriting.proofs.Marks.{none-taken, and-first, first-turn}
@@ -10,37 +10,29 @@ use Rattle.listwriting.proofs.taken.Lts as lts
 use Rattle.listwriting.proofs.ended.Reads as ended-reads
 use Rattle.listwriting.proofs.plainly_ended.Reads as plainly-ended-reads
 
--- src/lib.rt:114:9
 returns : tie.Need-returns
 returns c = none-taken _ _ _ _ (c .if1 .taken)
 
--- src/lib.rt:116:8
 shared-slice-read-if2 : tie.Need-shared-slice-read-if2
 shared-slice-read-if2 c = search needs
 
--- src/lib.rt:117:9
 returns-2 : tie.Need-returns-2
 returns-2 c = and-first _ _ _ _ (omega arith) (c .if2 .taken)
 
--- src/lib.rt:119:14
 add-to : tie.Need-add-to
 add-to c = search needs
 
--- src/lib.rt:120:8
 plainly-ended-requires : tie.Need-plainly-ended-requires
 plainly-ended-requires c κs = search needs
 
--- src/lib.rt:121:9
 returns-3 : tie.Need-returns-3
 returns-3 c =
     let p = c .before in
     sym (first-turn _ _ _ _ (omega arith) (p .before .if2 .left) ∙ p .plainly-ended .ensures (c .if3 .taken))
 
--- src/lib.rt:123:5
 ended-requires : tie.Need-ended-requires
 ended-requires c κs = search needs
 
--- src/lib.rt:109:1
 returns-4 : tie.Need-returns-4
 returns-4 c = c .ended .ensures ∙ sym (first-turn _ _ _ _ (omega arith) (c .before .before .before .if2 .left))
 

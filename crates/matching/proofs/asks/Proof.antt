@@ -1,4 +1,4 @@
--- `matching::asks` meets its contract. Each arm is the definition's clause, with what the calls in it ensure. Assumes nothing.
+-- `matching::asks` meets its contract. Each arm is the definition's clause, with what the calls in it ensure.
 use borrow.Author.Needs.{needs}
 use Rattle.matching.proofs.asks.Statement.{statement}
 use Rattle.matching.proofs.asks.Tie as tie

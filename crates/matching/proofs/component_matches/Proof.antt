@@ -1,4 +1,4 @@
--- `matching::component_matches` meets its contract. Each arm is what `asks` ensures, by `component-by`. Assumes nothing.
+-- `matching::component_matches` meets its contract. Each arm is what `asks` ensures, by `component-by`.
 use mathlib.Core.Path.{_∙_}
 use borrow.Author.Needs.{needs}
 use Rattle.matching.proofs.Walks.{component-by}

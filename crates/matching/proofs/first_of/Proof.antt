@@ -1,4 +1,4 @@
--- `matching::first_of` meets its contract. Each arm is the definition's clause. Assumes nothing.
+-- `matching::first_of` meets its contract. Each arm is the definition's clause.
 use mathlib.Core.Path.{sym}
 use borrow.Author.Needs.{needs}
 use Rattle.matching.proofs.first_of.Statement.{statement}

@@ -1,4 +1,4 @@
--- `matching::fragment_bits` meets its contract. Each arm is the definition's. Assumes nothing.
+-- `matching::fragment_bits` meets its contract. Each arm is the definition's.
 use mathlib.Core.Path.{sym}
 use borrow.Author.Tests.{eq-eqb, ne-eqb}
 use Rattle.matching.proofs.fragment_bits.Statement.{statement}

@@ -1,4 +1,4 @@
--- `matching::inside` meets its contract. Each answer is a law of `Ranges`. Assumes nothing.
+-- `matching::inside` meets its contract. Each answer is a law of `Ranges`.
 use borrow.Author.Needs.{needs}
 use Rattle.matching.proofs.Ranges.{outside, outside', within}
 use Rattle.matching.proofs.inside.Statement.{statement}

@@ -1,4 +1,4 @@
--- `matching::part_matches` meets its contract. Each arm is the definition's clause. Assumes nothing.
+-- `matching::part_matches` meets its contract. Each arm is the definition's clause.
 use mathlib.Core.Path.{_∙_}
 use borrow.Author.Needs.{needs}
 use Rattle.matching.proofs.Walks.{part-by}

@@ -1,4 +1,4 @@
--- `matching::prefix_matches` meets its contract. Each arm is the definition's clause. Assumes nothing.
+-- `matching::prefix_matches` meets its contract. Each arm is the definition's clause.
 use borrow.Author.Needs.{needs}
 use Rattle.matching.proofs.prefix_matches.Statement.{statement}
 use Rattle.matching.proofs.prefix_matches.Tie as tie

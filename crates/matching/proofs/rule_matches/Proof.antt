@@ -1,4 +1,4 @@
--- `matching::rule_matches` meets its contract. The loop's invariant is `Walked`: the components not passed yet decide, and all of them are there. Assumes nothing.
+-- `matching::rule_matches` meets its contract. The loop's invariant is `Walked`: the components not passed yet decide, and all of them are there.
 use Prim.Native.Nat.{_+_, _-_}
 use mathlib.Core.Path.{_≡_, refl, sym, _∙_, ap}
 use native.Mathlib.Omega.{arith}

@@ -1,4 +1,4 @@
--- `matching::same_bits` meets its contract. Both addresses moved alike compare as their bits do: `by-moves`. Assumes nothing.
+-- `matching::same_bits` meets its contract. Both addresses moved alike compare as their bits do: `by-moves`.
 use mathlib.Core.Path.{_∙_}
 use native.Mathlib.Omega.{arith}
 use borrow.Author.Needs.{needs}

@@ -1,4 +1,4 @@
--- `matching::span_matches` meets its contract. Each answer is a law of `Ranges`, by what `inside` ensures of the two lists. Assumes nothing.
+-- `matching::span_matches` meets its contract. Each answer is a law of `Ranges`, by what `inside` ensures of the two lists.
 use Prim.Native.Nat.{_+_}
 use mathlib.Core.Path.{_∙_, sym}
 use native.Mathlib.Omega.{arith}

@@ -1,4 +1,4 @@
--- `measuring::inside` meets its contract: the tests of the definition in turn. Assumes nothing.
+-- `measuring::inside` meets its contract: the tests of the definition in turn.
 use Prim.Native.Nat.{_+_}
 use mathlib.Core.Path.{sym, ap, _∙_}
 use mathlib.Core.Bool.{_&&_}
@@ -13,19 +13,15 @@ use Rattle.measuring.proofs.inside.Reads as reads
 use Rattle.measuring.proofs.inside.Lts as lts
 use Rattle.measuring.proofs.within.Reads as within-reads
 
--- src/lib.rt:91:9
 returns : tie.Need-returns
 returns c = let a = c .before .before .before .args in inside-none (lent (a .values .now) (a .octets .now) (a .first)) (a .start) (a .count) (c .if1 .taken)
 
--- src/lib.rt:93:8
 within-requires : tie.Need-within-requires
 within-requires c κs = search needs
 
--- src/lib.rt:94:9
 within-requires-2 : tie.Need-within-requires-2
 within-requires-2 c κs = search needs
 
--- src/lib.rt:94:9
 returns-2 : tie.Need-returns-2
 returns-2 c =
     let e = c .before .before .before in
@@ -34,7 +30,6 @@ returns-2 c =
     ∙ ap (λ b. b && leb (a .first + a .start + a .count) (length (a .octets .now))) (sym (c .before .before .within .ensures) ∙ c .before .if2 .taken)
     ∙ sym (c .within2 .ensures))
 
--- src/lib.rt:87:1
 returns-3 : tie.Need-returns-3
 returns-3 c =
     let e = c .before .before in

@@ -1,8 +1,8 @@
--- `measuring::list_size` meets its contract: a list that is not empty lies within the lent lists. Assumes nothing.
+-- `measuring::list_size` meets its contract: a list that is not empty lies within the lent lists.
 use Prim.Native.Nat.{_+_}
 use mathlib.Core.Path.{sym, ap, _∙_}
 use native.Mathlib.Omega.{arith}
-use Rattle.choices.specs.Operators.{opsIn}
+use Rattle.operators.specs.Ops.{opsIn}
 use Rattle.listwriting.specs.Lists.{sizeIn, takes}
 use Rattle.measuring.specs.Bodies.{lent}
 use Rattle.measuring.proofs.Insides.{inside-both}
@@ -13,12 +13,10 @@ use Rattle.measuring.proofs.list_size.Reads as reads
 use Rattle.measuring.proofs.list_size.Lts as lts
 use Rattle.listwriting.proofs.size.Reads as size-reads
 
--- src/lib.rt:132:9
 returns : tie.Need-returns
 unfolding sizeIn
 returns c = rw (c .if1 .taken)
 
--- src/lib.rt:134:31
 add-size : tie.Need-add-size
 add-size c =
     let s = c .before .before .before in
@@ -26,7 +24,6 @@ add-size c =
     let b = inside-both (lent (a .values .now) (a .octets .now) (a .first)) (a .start) (a .count) (c .if1 .left) (s .pre .0) in
     omega (arith, b .0)
 
--- src/lib.rt:134:5
 size-requires : tie.Need-size-requires
 size-requires c κs =
     let s = c .before .before .before in
@@ -34,7 +31,6 @@ size-requires c κs =
     let b = inside-both (lent (a .values .now) (a .octets .now) (a .first)) (a .start) (a .count) (c .if1 .left) (s .pre .0) in
     (omega (arith, b .1), omega (arith, s .pre .1))
 
--- src/lib.rt:127:1
 returns-2 : tie.Need-returns-2
 returns-2 c = search needs
 

@@ -1,4 +1,4 @@
--- `measuring::list_taken` meets its contract, by the writing. Assumes nothing.
+-- `measuring::list_taken` meets its contract, by the writing.
 use mathlib.Core.Path.{sym, ap, _∙_}
 use Rattle.choices.specs.declared.Reading.{Reading}
 use Rattle.measuring.specs.Bodies.{lent, opsOf}
@@ -10,37 +10,29 @@ use Rattle.measuring.proofs.list_taken.Reads as reads
 use Rattle.measuring.proofs.list_taken.Lts as lts
 use Rattle.measuring.proofs.standard_taken.Reads as standard-taken-reads
 
--- src/lib.rt:121:27
 enum-told : tie.Need-enum-told
 enum-told c = search needs
 
--- src/lib.rt:122:26
 enum-told-2 : tie.Need-enum-told-2
 enum-told-2 c = search needs
 
--- src/lib.rt:122:26
 standard-taken-requires : tie.Need-standard-taken-requires
 standard-taken-requires c κs = search needs
 
--- src/lib.rt:123:26
 enum-told-3 : tie.Need-enum-told-3
 enum-told-3 c = search needs
 
--- src/lib.rt:123:26
 standard-taken-requires-2 : tie.Need-standard-taken-requires-2
 standard-taken-requires-2 c κs = search needs
 
--- src/lib.rt:109:1
 returns : tie.Need-returns
 returns c = search needs
 
--- src/lib.rt:109:1
 returns-2 : tie.Need-returns-2
 returns-2 c =
     let a = c .before .before .before .before .before .args in
     c .standard-taken .ensures ∙ sym (ap (λ (w : Reading). listTaken w (opsOf (lent (a .values .now) (a .octets .now) (a .first)) (a .start) (a .count))) (c .before .enum-told2 .given .1))
 
--- src/lib.rt:109:1
 returns-3 : tie.Need-returns-3
 returns-3 c =
     let a = c .before .before .before .before .before .args in

@@ -1,4 +1,4 @@
--- `measuring::measure` meets its contract. The invariant: the whole is what was counted and what is left of the words. Assumes nothing.
+-- `measuring::measure` meets its contract. The invariant: the whole is what was counted and what is left of the words.
 use Prim.Native.Nat.{ℕ, _+_, _-_, _*_, _≤_}
 use mathlib.Core.Path.{_≡_, refl, sym, ap, _∙_}
 use native.Mathlib.Omega.{arith}
@@ -21,31 +21,24 @@ Inv-loop writing words count first values octets body₀ left₀ previous₀ i�
 abbrev μ-loop : tie.MeasureT-loop
 μ-loop writing words count first values octets body₀ left₀ previous₀ i₀ body left previous i = count - i
 
--- src/lib.rt:220:5
 loop-holds : tie.Need-loop-holds Inv-loop μ-loop
 loop-holds c = let a = c .before .before .before .args in (omega arith, omega arith, omega arith, walk-first (a .writing) (lent (a .values .now) (a .octets .now) (a .first)) (a .words .now) (a .count))
 
--- src/lib.rt:221:45
 mul-piece-at : tie.Need-mul-piece-at Inv-loop μ-loop
 mul-piece-at c = search needs
 
--- src/lib.rt:221:13
 piece-at-requires : tie.Need-piece-at-requires Inv-loop μ-loop
 piece-at-requires c κs = search needs
 
--- src/lib.rt:222:13
 weigh-requires : tie.Need-weigh-requires Inv-loop μ-loop
 weigh-requires c κs = search needs
 
--- src/lib.rt:224:13
 enum-known-w : tie.Need-enum-known-w Inv-loop μ-loop
 enum-known-w c = search needs
 
--- src/lib.rt:229:13
 enum-told : tie.Need-enum-told Inv-loop μ-loop
 enum-told c = search needs
 
--- src/lib.rt:229:13
 returns : tie.Need-returns Inv-loop μ-loop
 returns c =
     let g = c .before .before in
@@ -55,7 +48,6 @@ returns c =
     let f = weighs-not (a .writing) l (o .loop .left) (o .loop .previous) (g .before .piece-at .ensures) (g .weigh .ensures) (c .enum-told .given .1) in
     sym (o .loop .inv .3 ∙ walk-bad (a .writing) l (a .words .now) (a .count) (o .loop .i) (o .loop .left) (o .loop .previous) (o .loop .body) (omega arith) f)
 
--- src/lib.rt:231:9
 add-body : tie.Need-add-body Inv-loop μ-loop
 add-body c =
     let k = c .before in
@@ -66,7 +58,6 @@ add-body c =
     let f = weighs (a .writing) l (o .loop .left) (o .loop .previous) (g .before .piece-at .ensures) (g .weigh .ensures) (k .w .given .1) in
     omega (arith, f .most, f .few, o .loop .inv .2)
 
--- src/lib.rt:232:9
 sub-left : tie.Need-sub-left Inv-loop μ-loop
 sub-left c =
     let k = c .before in
@@ -77,15 +68,12 @@ sub-left c =
     let f = weighs (a .writing) l (o .loop .left) (o .loop .previous) (g .before .piece-at .ensures) (g .weigh .ensures) (k .w .given .1) in
     f .few
 
--- src/lib.rt:234:9
 add-i : tie.Need-add-i Inv-loop μ-loop
 add-i c = search needs
 
--- src/lib.rt:220:5
 loop-less : tie.Need-loop-less Inv-loop μ-loop
 loop-less c = search needs
 
--- src/lib.rt:220:5
 loop-again : tie.Need-loop-again Inv-loop μ-loop
 loop-again c =
     let k = c .before in
@@ -96,7 +84,6 @@ loop-again c =
     let f = weighs (a .writing) l (o .loop .left) (o .loop .previous) (g .before .piece-at .ensures) (g .weigh .ensures) (k .w .given .1) in
     (omega arith, omega arith, omega (arith, f .most, f .few, o .loop .inv .2), o .loop .inv .3 ∙ walk-more (a .writing) l (a .words .now) (a .count) (o .loop .i) (o .loop .left) (o .loop .previous) (o .loop .body) (omega arith) (f .fits) (f .kind) (f .size) (f .count))
 
--- src/lib.rt:205:1
 returns-2 : tie.Need-returns-2 Inv-loop μ-loop
 returns-2 c =
     let o = c .before in

@@ -1,4 +1,4 @@
--- `measuring::prefix_size` meets its contract, by the writing. Assumes nothing.
+-- `measuring::prefix_size` meets its contract, by the writing.
 use mathlib.Core.Path.{sym, ap, _∙_}
 use lib.ListN.{length}
 use Rattle.choices.specs.declared.Reading.{Reading}
@@ -12,39 +12,30 @@ use Rattle.measuring.proofs.prefix_size.Lts as lts
 use Rattle.prefixwriting.proofs.octets_in_plain.Reads as octets-in-plain-reads
 use Rattle.prefixwriting.proofs.octets_in_standard.Reads as octets-in-standard-reads
 
--- src/lib.rt:68:27
 enum-told : tie.Need-enum-told
 enum-told c = search needs
 
--- src/lib.rt:68:27
 octets-in-plain-requires : tie.Need-octets-in-plain-requires
 octets-in-plain-requires c κs = search needs
 
--- src/lib.rt:69:26
 enum-told-2 : tie.Need-enum-told-2
 enum-told-2 c = search needs
 
--- src/lib.rt:69:26
 octets-in-standard-requires : tie.Need-octets-in-standard-requires
 octets-in-standard-requires c κs = search needs
 
--- src/lib.rt:70:26
 enum-told-3 : tie.Need-enum-told-3
 enum-told-3 c = search needs
 
--- src/lib.rt:70:26
 octets-in-standard-requires-2 : tie.Need-octets-in-standard-requires-2
 octets-in-standard-requires-2 c κs = search needs
 
--- src/lib.rt:64:1
 returns : tie.Need-returns
 returns c = let a = c .before .before .before .args in c .octets-in-plain .ensures ∙ sym (ap (λ (w : Reading). length (prefixOctets w (a .prefix))) (c .before .enum-told .given .1) ∙ length-plain (a .prefix))
 
--- src/lib.rt:64:1
 returns-2 : tie.Need-returns-2
 returns-2 c = let a = c .before .before .before .args in c .octets-in-standard .ensures ∙ sym (ap (λ (w : Reading). length (prefixOctets w (a .prefix))) (c .before .enum-told2 .given .1) ∙ length-standard (a .prefix))
 
--- src/lib.rt:64:1
 returns-3 : tie.Need-returns-3
 returns-3 c = let a = c .before .before .before .args in c .octets-in-standard2 .ensures ∙ sym (ap (λ (w : Reading). length (prefixOctets w (a .prefix))) (c .before .enum-told3 .given .1) ∙ length-standard (a .prefix))
 

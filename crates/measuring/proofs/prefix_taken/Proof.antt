@@ -1,4 +1,4 @@
--- `measuring::prefix_taken` meets its contract, by the writing. Assumes nothing.
+-- `measuring::prefix_taken` meets its contract, by the writing.
 use mathlib.Core.Path.{sym, ap, _∙_}
 use Rattle.choices.specs.declared.Reading.{Reading}
 use Rattle.measuring.specs.Grounds.{prefixTaken}
@@ -10,39 +10,30 @@ use Rattle.measuring.proofs.prefix_taken.Lts as lts
 use Rattle.prefixes.proofs.in_range.Reads as in-range-reads
 use Rattle.prefixes.proofs.valid.Reads as valid-reads
 
--- src/lib.rt:57:27
 enum-told : tie.Need-enum-told
 enum-told c = search needs
 
--- src/lib.rt:57:27
 in-range-requires : tie.Need-in-range-requires
 in-range-requires c κs = search needs
 
--- src/lib.rt:58:26
 enum-told-2 : tie.Need-enum-told-2
 enum-told-2 c = search needs
 
--- src/lib.rt:58:26
 valid-requires : tie.Need-valid-requires
 valid-requires c κs = search needs
 
--- src/lib.rt:59:26
 enum-told-3 : tie.Need-enum-told-3
 enum-told-3 c = search needs
 
--- src/lib.rt:59:26
 valid-requires-2 : tie.Need-valid-requires-2
 valid-requires-2 c κs = search needs
 
--- src/lib.rt:53:1
 returns : tie.Need-returns
 returns c = let a = c .before .before .before .args in c .in-range .ensures ∙ sym (ap (λ (w : Reading). prefixTaken w (a .prefix)) (c .before .enum-told .given .1))
 
--- src/lib.rt:53:1
 returns-2 : tie.Need-returns-2
 returns-2 c = let a = c .before .before .before .args in c .valid .ensures ∙ sym (ap (λ (w : Reading). prefixTaken w (a .prefix)) (c .before .enum-told2 .given .1))
 
--- src/lib.rt:53:1
 returns-3 : tie.Need-returns-3
 returns-3 c = let a = c .before .before .before .args in c .valid2 .ensures ∙ sym (ap (λ (w : Reading). prefixTaken w (a .prefix)) (c .before .enum-told3 .given .1))
 

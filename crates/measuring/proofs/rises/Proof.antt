@@ -1,4 +1,4 @@
--- `measuring::rises` meets its contract, by the writing. Assumes nothing.
+-- `measuring::rises` meets its contract, by the writing.
 use mathlib.Core.Path.{sym, ap, _∙_}
 use Rattle.choices.specs.declared.Reading.{Reading}
 use Rattle.measuring.specs.Grounds.{risesIn}
@@ -9,35 +9,27 @@ use Rattle.measuring.proofs.rises.Reads as reads
 use Rattle.measuring.proofs.rises.Lts as lts
 use Rattle.measuring.proofs.rises_to.Reads as rises-to-reads
 
--- src/lib.rt:47:27
 enum-told : tie.Need-enum-told
 enum-told c = search needs
 
--- src/lib.rt:48:26
 enum-told-2 : tie.Need-enum-told-2
 enum-told-2 c = search needs
 
--- src/lib.rt:48:26
 rises-to-requires : tie.Need-rises-to-requires
 rises-to-requires c κs = search needs
 
--- src/lib.rt:49:26
 enum-told-3 : tie.Need-enum-told-3
 enum-told-3 c = search needs
 
--- src/lib.rt:49:26
 rises-to-requires-2 : tie.Need-rises-to-requires-2
 rises-to-requires-2 c κs = search needs
 
--- src/lib.rt:43:1
 returns : tie.Need-returns
 returns c = search needs
 
--- src/lib.rt:43:1
 returns-2 : tie.Need-returns-2
 returns-2 c = let a = c .before .before .before .args in c .rises-to .ensures ∙ sym (ap (λ (w : Reading). risesIn w (a .previous) (a .kind)) (c .before .enum-told2 .given .1))
 
--- src/lib.rt:43:1
 returns-3 : tie.Need-returns-3
 returns-3 c = let a = c .before .before .before .args in c .rises-to2 .ensures ∙ sym (ap (λ (w : Reading). risesIn w (a .previous) (a .kind)) (c .before .enum-told3 .given .1))
 

@@ -1,4 +1,4 @@
--- `measuring::rises_to` meets its contract: two tests in turn. Assumes nothing.
+-- `measuring::rises_to` meets its contract: two tests in turn.
 use borrow.Author.Tests.{lt-ltb, le-ltb}
 use borrow.Author.Needs.{needs}
 use Rattle.measuring.proofs.rises_to.Statement.{statement}
@@ -6,11 +6,9 @@ use Rattle.measuring.proofs.rises_to.Tie as tie
 use Rattle.measuring.proofs.rises_to.Reads as reads
 use Rattle.measuring.proofs.rises_to.Lts as lts
 
--- src/lib.rt:37:9
 returns : tie.Need-returns
 returns c = rw (lt-ltb _ _ (c .if1 .taken))
 
--- src/lib.rt:33:1
 returns-2 : tie.Need-returns-2
 returns-2 c = rw (le-ltb _ _ (c .if1 .left))
 

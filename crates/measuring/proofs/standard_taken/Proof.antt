@@ -1,8 +1,8 @@
--- `measuring::standard_taken` meets its contract: a list that is not empty lies within the lent lists. Assumes nothing.
+-- `measuring::standard_taken` meets its contract: a list that is not empty lies within the lent lists.
 use Prim.Native.Nat.{_+_}
 use mathlib.Core.Path.{sym, ap, _∙_}
 use native.Mathlib.Omega.{arith}
-use Rattle.choices.specs.Operators.{opsIn}
+use Rattle.operators.specs.Ops.{opsIn}
 use Rattle.listwriting.specs.Lists.{sizeIn, takes}
 use Rattle.measuring.specs.Bodies.{lent}
 use Rattle.measuring.proofs.Insides.{inside-both}
@@ -13,12 +13,10 @@ use Rattle.measuring.proofs.standard_taken.Reads as reads
 use Rattle.measuring.proofs.standard_taken.Lts as lts
 use Rattle.listwriting.proofs.taken.Reads as taken-reads
 
--- src/lib.rt:104:9
 returns : tie.Need-returns
 unfolding takes opsIn
 returns c = rw (c .if1 .taken)
 
--- src/lib.rt:106:40
 add-taken : tie.Need-add-taken
 add-taken c =
     let s = c .before .before .before in
@@ -26,7 +24,6 @@ add-taken c =
     let b = inside-both (lent (a .values .now) (a .octets .now) (a .first)) (a .start) (a .count) (c .if1 .left) (s .pre) in
     omega (arith, b .0)
 
--- src/lib.rt:106:5
 taken-requires : tie.Need-taken-requires
 taken-requires c κs =
     let s = c .before .before .before in
@@ -34,7 +31,6 @@ taken-requires c κs =
     let b = inside-both (lent (a .values .now) (a .octets .now) (a .first)) (a .start) (a .count) (c .if1 .left) (s .pre) in
     (omega (arith, b .0), omega (arith, b .1))
 
--- src/lib.rt:99:1
 returns-2 : tie.Need-returns-2
 returns-2 c = search needs
 

@@ -1,4 +1,4 @@
--- `measuring::weigh` meets its contract, by the piece. Assumes nothing.
+-- `measuring::weigh` meets its contract, by the piece.
 use mathlib.Core.Path.{_≡_, sym, ap, _∙_}
 use mathlib.Core.Bool.{false}
 use borrow.Author.Tests.{le-leb}
@@ -16,27 +16,21 @@ use Rattle.measuring.proofs.weigh.Lts as lts
 use Rattle.measuring.proofs.weigh_list.Reads as weigh-list-reads
 use Rattle.measuring.proofs.weigh_prefix.Reads as weigh-prefix-reads
 
--- src/lib.rt:196:25
 enum-known-piece : tie.Need-enum-known-piece
 enum-known-piece c = search needs
 
--- src/lib.rt:196:43
 weigh-prefix-requires : tie.Need-weigh-prefix-requires
 weigh-prefix-requires c κs = search needs
 
--- src/lib.rt:197:28
 enum-known-piece-2 : tie.Need-enum-known-piece-2
 enum-known-piece-2 c = search needs
 
--- src/lib.rt:197:52
 weigh-list-requires : tie.Need-weigh-list-requires
 weigh-list-requires c κs = search needs
 
--- src/lib.rt:200:28
 enum-told : tie.Need-enum-told
 enum-told c = search needs
 
--- src/lib.rt:183:1
 returns : tie.Need-returns
 returns c =
     let k = c .before .before in
@@ -44,7 +38,6 @@ returns c =
     let l = lent (a .values .now) (a .octets .now) (a .first) in
     c .weigh-prefix .ensures ∙ weighed-prefix (a .writing) l (a .left) (a .previous) _ _ ∙ sym (ap (weighedOf (a .writing) l (a .left) (a .previous)) (k .piece .given .1))
 
--- src/lib.rt:183:1
 returns-2 : tie.Need-returns-2
 returns-2 c =
     let k = c .before .before in
@@ -52,7 +45,6 @@ returns-2 c =
     let l = lent (a .values .now) (a .octets .now) (a .first) in
     c .weigh-list .ensures ∙ sym (ap (weighedOf (a .writing) l (a .left) (a .previous)) (k .piece2 .given .1))
 
--- src/lib.rt:183:1
 returns-3 : tie.Need-returns-3
 returns-3 c =
     let a = c .before .before .before .before .args in

@@ -1,4 +1,4 @@
--- `measuring::weigh_list` meets its contract: the tests in turn. Assumes nothing.
+-- `measuring::weigh_list` meets its contract: the tests in turn.
 use Prim.Native.Nat.{_+_}
 use mathlib.Core.Path.{sym, ap, _∙_}
 use native.Mathlib.Omega.{arith}
@@ -16,31 +16,25 @@ use Rattle.measuring.proofs.list_size.Reads as list-size-reads
 use Rattle.measuring.proofs.list_taken.Reads as list-taken-reads
 use Rattle.measuring.proofs.rises.Reads as rises-reads
 
--- src/lib.rt:167:12
 inside-requires : tie.Need-inside-requires
 inside-requires c κs = search needs
 
--- src/lib.rt:168:16
 list-taken-requires : tie.Need-list-taken-requires
 list-taken-requires c κs = sym (c .before .inside .ensures) ∙ c .if2 .taken
 
--- src/lib.rt:169:20
 rises-requires : tie.Need-rises-requires
 rises-requires c κs = search needs
 
--- src/lib.rt:172:37
 list-size-requires : tie.Need-list-size-requires
 list-size-requires c κs =
     let s = c .before .before .before .before in
     (sym (s .before .inside .ensures) ∙ s .if2 .taken, omega arith)
 
--- src/lib.rt:172:33
 add-t15 : tie.Need-add-t15
 add-t15 c =
     let a = c .before .before .before .before .before .before .before .before .before .before .args in
     omega (arith, c .list-size .ensures, size-most (a .octets .now) (a .first + a .start) (a .count))
 
--- src/lib.rt:170:21
 returns : tie.Need-returns
 returns c =
     let s = c .before .before .before .before .before in
@@ -51,7 +45,6 @@ returns c =
     (sym (c .before .before .before .before .list-taken .ensures) ∙ c .before .before .before .if3 .taken) (sym (c .before .before .rises .ensures) ∙ c .before .if4 .taken))
     (omega (arith, c .list-size .ensures, length-operators (a .writing) l (a .kind) (a .start) (a .count)))
 
--- src/lib.rt:152:1
 returns-2 : tie.Need-returns-2
 returns-2 c =
     let a = c .before .before .before .before .before .before .before .before .before .args in
@@ -59,7 +52,6 @@ returns-2 c =
     weighed-no (a .writing) l (a .left) (a .previous) (Operators (a .kind) (a .start) (a .count))
     (list-falls (a .writing) l (a .left) (a .previous) (a .kind) (a .start) (a .count) (sym (c .before .rises .ensures) ∙ c .if4 .left))
 
--- src/lib.rt:152:1
 returns-3 : tie.Need-returns-3
 returns-3 c =
     let s = c .before .before in
@@ -68,7 +60,6 @@ returns-3 c =
     weighed-no (a .writing) l (a .left) (a .previous) (Operators (a .kind) (a .start) (a .count))
     (list-bad (a .writing) l (a .left) (a .previous) (a .kind) (a .start) (a .count) (sym (s .before .inside .ensures) ∙ s .if2 .taken) (sym (c .before .list-taken .ensures) ∙ c .if3 .left))
 
--- src/lib.rt:152:1
 returns-4 : tie.Need-returns-4
 returns-4 c =
     let a = c .before .before .before .before .before .args in
@@ -76,7 +67,6 @@ returns-4 c =
     weighed-no (a .writing) l (a .left) (a .previous) (Operators (a .kind) (a .start) (a .count))
     (list-outside (a .writing) l (a .left) (a .previous) (a .kind) (a .start) (a .count) (sym (c .before .inside .ensures) ∙ c .if2 .left))
 
--- src/lib.rt:152:1
 returns-5 : tie.Need-returns-5
 returns-5 c =
     let a = c .before .before .before .args in

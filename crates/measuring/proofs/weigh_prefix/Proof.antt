@@ -1,4 +1,4 @@
--- `measuring::weigh_prefix` meets its contract: the tests in turn. Assumes nothing.
+-- `measuring::weigh_prefix` meets its contract: the tests in turn.
 use Prim.Native.Nat.{_+_}
 use mathlib.Core.Path.{sym, ap, ap₂, _∙_}
 use mathlib.Core.Bool.{_&&_}
@@ -16,25 +16,20 @@ use Rattle.measuring.proofs.prefix_size.Reads as prefix-size-reads
 use Rattle.measuring.proofs.prefix_taken.Reads as prefix-taken-reads
 use Rattle.measuring.proofs.rises.Reads as rises-reads
 
--- src/lib.rt:140:8
 prefix-taken-requires : tie.Need-prefix-taken-requires
 prefix-taken-requires c κs = search needs
 
--- src/lib.rt:141:12
 rises-requires : tie.Need-rises-requires
 rises-requires c κs = search needs
 
--- src/lib.rt:144:29
 prefix-size-requires : tie.Need-prefix-size-requires
 prefix-size-requires c κs = search needs
 
--- src/lib.rt:144:25
 add-t8 : tie.Need-add-t8
 add-t8 c =
     let e = c .before .before .before in
     omega (arith, c .prefix-size .ensures, prefix-most (e .before .before .args .writing) (e .before .before .args .prefix) (sym (e .before .prefix-taken .ensures) ∙ e .if1 .taken))
 
--- src/lib.rt:142:13
 returns : tie.Need-returns
 returns c =
     let e = c .before .before .before in
@@ -43,7 +38,6 @@ returns c =
     let r = sym (c .before .before .rises .ensures) ∙ c .before .if2 .taken in
     rw (c .prefix-size .ensures) (sym (ap₂ (λ x y. weighed (x && y) (a .kind) (1 + length (prefixOctets (a .writing) (a .prefix))) 0) t r))
 
--- src/lib.rt:137:1
 returns-2 : tie.Need-returns-2
 returns-2 c =
     let e = c .before .before in
@@ -52,7 +46,6 @@ returns-2 c =
     let r = sym (c .before .rises .ensures) ∙ c .if2 .left in
     sym (ap₂ (λ x y. weighed (x && y) (a .kind) (1 + length (prefixOctets (a .writing) (a .prefix))) 0) t r)
 
--- src/lib.rt:137:1
 returns-3 : tie.Need-returns-3
 returns-3 c =
     let a = c .before .before .args in

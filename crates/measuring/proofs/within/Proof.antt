@@ -1,4 +1,4 @@
--- `measuring::within` meets its contract: the same test with nothing added. Assumes nothing.
+-- `measuring::within` meets its contract: the same test with nothing added.
 use Prim.Native.Nat.{_+_, _<_}
 use mathlib.Core.Path.{sym}
 use native.Mathlib.Omega.{arith}
@@ -10,25 +10,21 @@ use Rattle.measuring.proofs.within.Tie as tie
 use Rattle.measuring.proofs.within.Reads as reads
 use Rattle.measuring.proofs.within.Lts as lts
 
--- src/lib.rt:79:9
 returns : tie.Need-returns
 returns c =
     let a = c .before .args in
     let h : a .size < a .first + a .start + a .count = omega arith in
     sym (lt-leb _ _ h)
 
--- src/lib.rt:82:9
 returns-2 : tie.Need-returns-2
 returns-2 c =
     let a = c .before .before .args in
     let h : a .size < a .first + a .start + a .count = omega arith in
     sym (lt-leb _ _ h)
 
--- src/lib.rt:84:14
 sub-result : tie.Need-sub-result
 sub-result c = search needs
 
--- src/lib.rt:75:1
 returns-3 : tie.Need-returns-3
 returns-3 c =
     let a = c .before .before .args in

@@ -1,4 +1,4 @@
--- `pieces::other_piece` meets its contract, by what component_at and piece_of ensure. Assumes nothing.
+-- `pieces::other_piece` meets its contract, by what component_at and piece_of ensure.
 use mathlib.Core.Path.{sym, ap, _∙_}
 use Rattle.pieces.specs.Pieces.{pieceIn}
 use borrow.Author.Needs.{needs}
@@ -9,27 +9,21 @@ use Rattle.pieces.proofs.other_piece.Lts as lts
 use Rattle.pieces.proofs.piece_of.Reads as piece-of-reads
 use Rattle.stored.proofs.component_at.Reads as component-at-reads
 
--- src/lib.rt:110:9
 component-at-requires : tie.Need-component-at-requires
 component-at-requires c κs = search needs
 
--- src/lib.rt:112:18
 enum-known-part : tie.Need-enum-known-part
 enum-known-part c = search needs
 
--- src/lib.rt:112:32
 piece-of-requires : tie.Need-piece-of-requires
 piece-of-requires c κs = search needs
 
--- src/lib.rt:113:27
 enum-told : tie.Need-enum-told
 enum-told c = search needs
 
--- src/lib.rt:106:1
 returns : tie.Need-returns
 returns c = c .piece-of .ensures ∙ sym (ap pieceIn (c .before .before .part .given .1)) ∙ ap pieceIn (c .before .before .before .before .component-at .ensures)
 
--- src/lib.rt:106:1
 returns-2 : tie.Need-returns-2
 returns-2 c = sym (ap pieceIn (c .enum-told .given .1)) ∙ ap pieceIn (c .before .before .component-at .ensures)
 

@@ -1,4 +1,4 @@
--- `pieces::piece_at` meets its contract. `Fronts.antt` has what the words of a list are. Assumes nothing.
+-- `pieces::piece_at` meets its contract. `Fronts.antt` has what the words of a list are.
 use Rattle.pieces.proofs.Fronts.{list-front}
 use borrow.Author.Needs.{needs}
 use Rattle.pieces.proofs.piece_at.Statement.{statement}
@@ -7,63 +7,48 @@ use Rattle.pieces.proofs.piece_at.Reads as reads
 use Rattle.pieces.proofs.piece_at.Lts as lts
 use Rattle.pieces.proofs.prefix_at.Reads as prefix-at-reads
 
--- src/lib.rt:73:16
 mul-kind : tie.Need-mul-kind
 mul-kind c = search needs
 
--- src/lib.rt:73:16
 shared-slice-read-kind : tie.Need-shared-slice-read-kind
 shared-slice-read-kind c = search needs
 
--- src/lib.rt:74:14
 add-if1 : tie.Need-add-if1
 add-if1 c = search needs
 
--- src/lib.rt:74:8
 mul-if1 : tie.Need-mul-if1
 mul-if1 c = search needs
 
--- src/lib.rt:74:8
 shared-slice-read-if1 : tie.Need-shared-slice-read-if1
 shared-slice-read-if1 c = search needs
 
--- src/lib.rt:78:27
 cast-t12 : tie.Need-cast-t12
 cast-t12 c = search needs
 
--- src/lib.rt:79:34
 add-t13 : tie.Need-add-t13
 add-t13 c = search needs
 
--- src/lib.rt:79:28
 mul-t14 : tie.Need-mul-t14
 mul-t14 c = search needs
 
--- src/lib.rt:79:28
 shared-slice-read-t16 : tie.Need-shared-slice-read-t16
 shared-slice-read-t16 c = search needs
 
--- src/lib.rt:80:34
 add-t18 : tie.Need-add-t18
 add-t18 c = search needs
 
--- src/lib.rt:80:28
 mul-t19 : tie.Need-mul-t19
 mul-t19 c = search needs
 
--- src/lib.rt:80:28
 shared-slice-read-t21 : tie.Need-shared-slice-read-t21
 shared-slice-read-t21 c = search needs
 
--- src/lib.rt:77:17
 returns : tie.Need-returns
 returns c = let t = c .before .before in list-front _ _ (t .before .before .if1 .taken) (t .before .if2 .taken) (t .if3 .taken)
 
--- src/lib.rt:85:5
 prefix-at-requires : tie.Need-prefix-at-requires
 prefix-at-requires c κs = search needs
 
--- src/lib.rt:69:1
 returns-2 : tie.Need-returns-2
 returns-2 c = search needs
 

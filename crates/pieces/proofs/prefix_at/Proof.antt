@@ -1,4 +1,4 @@
--- `pieces::prefix_at` meets its contract. `Fronts.antt` has what the words of an IPv4 prefix are. Assumes nothing.
+-- `pieces::prefix_at` meets its contract. `Fronts.antt` has what the words of an IPv4 prefix are.
 use Rattle.pieces.proofs.Fronts.{ipv4-front}
 use borrow.Author.Needs.{needs}
 use Rattle.pieces.proofs.prefix_at.Statement.{statement}
@@ -7,71 +7,54 @@ use Rattle.pieces.proofs.prefix_at.Reads as reads
 use Rattle.pieces.proofs.prefix_at.Lts as lts
 use Rattle.pieces.proofs.other_piece.Reads as other-piece-reads
 
--- src/lib.rt:92:16
 mul-kind : tie.Need-mul-kind
 mul-kind c = search needs
 
--- src/lib.rt:92:16
 shared-slice-read-kind : tie.Need-shared-slice-read-kind
 shared-slice-read-kind c = search needs
 
--- src/lib.rt:93:19
 add-a : tie.Need-add-a
 add-a c = search needs
 
--- src/lib.rt:93:13
 mul-a : tie.Need-mul-a
 mul-a c = search needs
 
--- src/lib.rt:93:13
 shared-slice-read-a : tie.Need-shared-slice-read-a
 shared-slice-read-a c = search needs
 
--- src/lib.rt:94:19
 add-b : tie.Need-add-b
 add-b c = search needs
 
--- src/lib.rt:94:13
 mul-b : tie.Need-mul-b
 mul-b c = search needs
 
--- src/lib.rt:94:13
 shared-slice-read-b : tie.Need-shared-slice-read-b
 shared-slice-read-b c = search needs
 
--- src/lib.rt:95:14
 add-if1 : tie.Need-add-if1
 add-if1 c = search needs
 
--- src/lib.rt:95:8
 mul-if1 : tie.Need-mul-if1
 mul-if1 c = search needs
 
--- src/lib.rt:95:8
 shared-slice-read-if1 : tie.Need-shared-slice-read-if1
 shared-slice-read-if1 c = search needs
 
--- src/lib.rt:101:35
 cast-t18 : tie.Need-cast-t18
 cast-t18 c = search needs
 
--- src/lib.rt:103:41
 cast-t19 : tie.Need-cast-t19
 cast-t19 c = search needs
 
--- src/lib.rt:104:42
 cast-t20 : tie.Need-cast-t20
 cast-t20 c = search needs
 
--- src/lib.rt:100:25
 returns : tie.Need-returns
 returns c = let t = c .before .before in ipv4-front _ _ (t .before .before .if1 .taken) (t .before .if2 .taken) (t .if3 .taken) (c .before .if4 .taken) (c .if5 .taken)
 
--- src/lib.rt:112:5
 other-piece-requires : tie.Need-other-piece-requires
 other-piece-requires c κs = search needs
 
--- src/lib.rt:88:1
 returns-2 : tie.Need-returns-2
 returns-2 c = search needs
 

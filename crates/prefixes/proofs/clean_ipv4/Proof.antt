@@ -1,4 +1,4 @@
--- `prefixes::clean_ipv4` meets its contract: what is kept is the first bits, and nothing stands above 32. Assumes nothing.
+-- `prefixes::clean_ipv4` meets its contract: what is kept is the first bits, and nothing stands above 32.
 use Prim.Native.Nat.{ℕ, _-_}
 use mathlib.Core.Path.{ap, _∙_}
 use lib.Dec.{eqb}
@@ -10,11 +10,9 @@ use Rattle.prefixes.proofs.clean_ipv4.Reads as reads
 use Rattle.prefixes.proofs.clean_ipv4.Lts as lts
 use Rattle.octets.proofs.keep_ipv4.Reads as keep-ipv4-reads
 
--- src/lib.rt:230:5
 keep-ipv4-requires : tie.Need-keep-ipv4-requires
 keep-ipv4-requires c κs = search needs
 
--- src/lib.rt:227:1
 returns : tie.Need-returns
 returns c = ap (λ (x : ℕ). eqb x (c .before .args .address)) (c .keep-ipv4 .ensures) ∙ none-before 32 (c .before .args .len) (c .before .args .address) (c .before .fits .address .fits)
 

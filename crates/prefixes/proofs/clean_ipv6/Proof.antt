@@ -1,4 +1,4 @@
--- `prefixes::clean_ipv6` meets its contract: each test is one of what was kept. Assumes nothing.
+-- `prefixes::clean_ipv6` meets its contract: each test is one of what was kept.
 use Prim.Native.Nat.{_-_}
 use mathlib.Core.Path.{_≡_, sym, ap, _∙_}
 use mathlib.Core.Bool.{Bool, true, _&&_}
@@ -15,27 +15,21 @@ use Rattle.prefixes.proofs.clean_ipv6.Lts as lts
 use Rattle.octets.proofs.keep_ipv6.Reads as keep-ipv6-reads
 use Rattle.wide.proofs.same.Reads as same-reads
 
--- src/lib.rt:237:19
 keep-ipv6-requires : tie.Need-keep-ipv6-requires
 keep-ipv6-requires c κs = search needs
 
--- src/lib.rt:237:8
 same-requires : tie.Need-same-requires
 same-requires c κs = search needs
 
--- src/lib.rt:238:20
 keep-ipv6-requires-2 : tie.Need-keep-ipv6-requires-2
 keep-ipv6-requires-2 c κs = search needs
 
--- src/lib.rt:238:9
 same-requires-2 : tie.Need-same-requires-2
 same-requires-2 c κs = search needs
 
--- src/lib.rt:234:1
 returns : tie.Need-returns
 returns c = let a = c .before .before .before .before .before .args in let k = c .before .before .before .before .keep-ipv6 in let e : eqb (firstBits 128 (a .len) (num (a .w))) (num (a .w)) ≡ true = sym (kept-test (k .result) (a .w) (a .len) (num (a .w)) (k .ensures)) ∙ sym (c .before .before .before .same .ensures) ∙ c .before .before .if1 .taken in c .same2 .ensures ∙ kept-test (c .before .keep-ipv62 .result) (a .w) (a .off) 0 (c .before .keep-ipv62 .ensures) ∙ sym (ap (λ (t : Bool). t && eqb (firstBits 128 (a .off) (num (a .w))) 0) e)
 
--- src/lib.rt:234:1
 returns-2 : tie.Need-returns-2
 returns-2 c = let a = c .before .before .before .args in let k = c .before .before .keep-ipv6 in sym (no-one _ _ (sym (kept-test (k .result) (a .w) (a .len) (num (a .w)) (k .ensures)) ∙ sym (c .before .same .ensures) ∙ c .if1 .left))
 

@@ -1,4 +1,4 @@
--- `prefixes::front_ipv4` meets its contract: the octets stand in the lower half, and moved up they fit. Assumes nothing.
+-- `prefixes::front_ipv4` meets its contract: the octets stand in the lower half, and moved up they fit.
 use Rattle.prefixes.proofs.Addresses.{front-ipv4, front-ipv4-lt}
 use borrow.Author.Needs.{needs}
 use Rattle.prefixes.proofs.front_ipv4.Statement.{statement}
@@ -7,27 +7,21 @@ use Rattle.prefixes.proofs.front_ipv4.Reads as reads
 use Rattle.prefixes.proofs.front_ipv4.Lts as lts
 use Rattle.prefixes.proofs.octets_of.Reads as octets-of-reads
 
--- src/lib.rt:34:20
 octets-of-requires : tie.Need-octets-of-requires
 octets-of-requires c κs = search needs
 
--- src/lib.rt:34:16
 mul-bits : tie.Need-mul-bits
 mul-bits c = search needs
 
--- src/lib.rt:35:16
 sub-result : tie.Need-sub-result
 sub-result c = search needs
 
--- src/lib.rt:35:6
 shl-result : tie.Need-shl-result
 shl-result c = search needs
 
--- src/lib.rt:35:5
 cast-result : tie.Need-cast-result
 cast-result c = let a = c .before .before .args in let p = c .before .before .pre in let q = front-ipv4-lt (a .v .high) (a .v .low) (a .len) (c .before .octets-of .result) (p .0) (c .before .octets-of .ensures) (p .1) in search needs
 
--- src/lib.rt:30:1
 returns : tie.Need-returns
 returns c = let a = c .before .before .args in let p = c .before .before .pre in front-ipv4 (a .v .high) (a .v .low) (a .len) (c .before .octets-of .result) (p .0) (c .before .octets-of .ensures) (p .1)
 

@@ -1,4 +1,4 @@
--- `prefixes::front_ipv6` meets its contract: the octets moved up fit in 128 bits. Assumes nothing.
+-- `prefixes::front_ipv6` meets its contract: the octets moved up fit in 128 bits.
 use Rattle.prefixes.proofs.Addresses.{front-ipv6}
 use borrow.Author.Needs.{needs}
 use Rattle.prefixes.proofs.front_ipv6.Statement.{statement}
@@ -8,27 +8,21 @@ use Rattle.prefixes.proofs.front_ipv6.Lts as lts
 use Rattle.prefixes.proofs.octets_of.Reads as octets-of-reads
 use Rattle.wide.proofs.shl.Reads as shl-reads
 
--- src/lib.rt:42:20
 octets-of-requires : tie.Need-octets-of-requires
 octets-of-requires c κs = search needs
 
--- src/lib.rt:42:20
 cast-bits : tie.Need-cast-bits
 cast-bits c = search needs
 
--- src/lib.rt:42:16
 mul-bits : tie.Need-mul-bits
 mul-bits c = search needs
 
--- src/lib.rt:43:18
 sub-shl : tie.Need-sub-shl
 sub-shl c = search needs
 
--- src/lib.rt:43:5
 shl-requires : tie.Need-shl-requires
 shl-requires c κs = search needs
 
--- src/lib.rt:38:1
 returns : tie.Need-returns
 returns c = let a = c .before .before .args in let p = c .before .before .pre in front-ipv6 (a .v) (c .shl .result) (a .len) (c .before .octets-of .result) (p .0) (c .before .octets-of .ensures) (p .1) (c .shl .ensures)
 

@@ -1,4 +1,4 @@
--- `prefixes::in_range` meets its contract: each form by its clause. Assumes nothing.
+-- `prefixes::in_range` meets its contract: each form by its clause.
 use mathlib.Core.Path.{sym, ap}
 use Rattle.prefixes.specs.Forms.{inRange}
 use borrow.Author.Needs.{needs}
@@ -7,35 +7,27 @@ use Rattle.prefixes.proofs.in_range.Tie as tie
 use Rattle.prefixes.proofs.in_range.Reads as reads
 use Rattle.prefixes.proofs.in_range.Lts as lts
 
--- src/lib.rt:206:31
 enum-known-prefix : tie.Need-enum-known-prefix
 enum-known-prefix c = search needs
 
--- src/lib.rt:208:13
 enum-known-prefix-2 : tie.Need-enum-known-prefix-2
 enum-known-prefix-2 c = search needs
 
--- src/lib.rt:213:13
 enum-known-prefix-3 : tie.Need-enum-known-prefix-3
 enum-known-prefix-3 c = search needs
 
--- src/lib.rt:218:13
 enum-known-prefix-4 : tie.Need-enum-known-prefix-4
 enum-known-prefix-4 c = search needs
 
--- src/lib.rt:202:1
 returns : tie.Need-returns
 returns c = sym (ap inRange (c .before .prefix .given .1))
 
--- src/lib.rt:202:1
 returns-2 : tie.Need-returns-2
 returns-2 c = sym (ap inRange (c .before .prefix2 .given .1))
 
--- src/lib.rt:202:1
 returns-3 : tie.Need-returns-3
 returns-3 c = sym (ap inRange (c .before .prefix3 .given .1))
 
--- src/lib.rt:202:1
 returns-4 : tie.Need-returns-4
 returns-4 c = sym (ap inRange (c .before .prefix4 .given .1))
 

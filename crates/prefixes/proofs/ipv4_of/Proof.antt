@@ -1,4 +1,4 @@
--- `prefixes::ipv4_of` meets its contract: the first bits of the address that the octets give. Assumes nothing.
+-- `prefixes::ipv4_of` meets its contract: the first bits of the address that the octets give.
 use Prim.Native.Nat.{ℕ, _-_}
 use mathlib.Core.Path.{ap, _∙_}
 use Rattle.rules.specs.declared.NetworkPrefix.the-variants.{Ipv4}
@@ -11,15 +11,12 @@ use Rattle.prefixes.proofs.ipv4_of.Lts as lts
 use Rattle.octets.proofs.keep_ipv4.Reads as keep-ipv4-reads
 use Rattle.prefixes.proofs.front_ipv4.Reads as front-ipv4-reads
 
--- src/lib.rt:72:36
 front-ipv4-requires : tie.Need-front-ipv4-requires
 front-ipv4-requires c κs = search needs
 
--- src/lib.rt:72:18
 keep-ipv4-requires : tie.Need-keep-ipv4-requires
 keep-ipv4-requires c κs = search needs
 
--- src/lib.rt:66:1
 returns : tie.Need-returns
 returns c = let a = c .before .before .args in ap (λ (x : ℕ). Ipv4 (a .len) x) (c .keep-ipv4 .ensures ∙ ap (λ (x : ℕ). firstBits 32 (a .len) x) (c .before .front-ipv4 .ensures))
 

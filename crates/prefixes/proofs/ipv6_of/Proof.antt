@@ -1,4 +1,4 @@
--- `prefixes::ipv6_of` meets its contract: the bits moved to their place fit in 128 bits. Assumes nothing.
+-- `prefixes::ipv6_of` meets its contract: the bits moved to their place fit in 128 bits.
 use Prim.Native.Nat.{_-_}
 use mathlib.Core.Path.{ap}
 use Rattle.wide.specs.declared.Wide.{Wide}
@@ -12,39 +12,30 @@ use Rattle.prefixes.proofs.ipv6_of.Lts as lts
 use Rattle.prefixes.proofs.octets_of.Reads as octets-of-reads
 use Rattle.wide.proofs.moved.Reads as moved-reads
 
--- src/lib.rt:80:13
 sub-n : tie.Need-sub-n
 sub-n c = search needs
 
--- src/lib.rt:81:20
 octets-of-requires : tie.Need-octets-of-requires
 octets-of-requires c κs = search needs
 
--- src/lib.rt:81:20
 cast-bits : tie.Need-cast-bits
 cast-bits c = search needs
 
--- src/lib.rt:81:16
 mul-bits : tie.Need-mul-bits
 mul-bits c = search needs
 
--- src/lib.rt:82:35
 cast-moved : tie.Need-cast-moved
 cast-moved c = search needs
 
--- src/lib.rt:82:28
 sub-moved : tie.Need-sub-moved
 sub-moved c = search needs
 
--- src/lib.rt:82:45
 sub-moved-2 : tie.Need-sub-moved-2
 sub-moved-2 c = search needs
 
--- src/lib.rt:82:9
 moved-requires : tie.Need-moved-requires
 moved-requires c κs = search needs
 
--- src/lib.rt:76:1
 returns : tie.Need-returns
 returns c = let a = c .before .before .args in let p = c .before .before .pre in ap (λ (w : Wide). Ipv6Offset (a .len) (a .off) (w .high) (w .low)) (offset-ipv6 (a .v) (c .moved .result) (a .len) (c .before .octets-of .result) (p .1) (a .off) (p .0) (c .before .octets-of .ensures) (p .2) (c .moved .ensures))
 

@@ -1,4 +1,4 @@
--- `prefixes::offset_fits` meets its contract: each return is the definition with its tests decided. Assumes nothing.
+-- `prefixes::offset_fits` meets its contract: each return is the definition with its tests decided.
 use native.Mathlib.Omega.{arith}
 use borrow.Author.Tests.{eq-eqb, ne-eqb, lt-ltb, le-ltb}
 use mathlib.Core.Bool.{and-true, and-false, or-false}
@@ -7,15 +7,12 @@ use Rattle.prefixes.proofs.offset_fits.Tie as tie
 use Rattle.prefixes.proofs.offset_fits.Reads as reads
 use Rattle.prefixes.proofs.offset_fits.Lts as lts
 
--- src/lib.rt:96:9
 returns : tie.Need-returns
 returns c = simp (eq-eqb _ _ (c .if1 .taken), le-ltb (c .before .args .off) (c .before .args .len) (omega arith), or-false)
 
--- src/lib.rt:99:9
 returns-2 : tie.Need-returns-2
 returns-2 c = simp (ne-eqb _ _ (c .before .if1 .left), lt-ltb _ _ (c .if2 .taken), and-true)
 
--- src/lib.rt:92:1
 returns-3 : tie.Need-returns-3
 returns-3 c = simp (ne-eqb _ _ (c .before .if1 .left), le-ltb _ _ (c .if2 .left), and-false)
 

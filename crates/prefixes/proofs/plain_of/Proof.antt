@@ -1,4 +1,4 @@
--- `prefixes::plain_of` meets its contract: by the length, one address or the other. Assumes nothing.
+-- `prefixes::plain_of` meets its contract: by the length, one address or the other.
 use mathlib.Core.Path.{ap}
 use borrow.Author.Tests.{le-leb, lt-leb}
 use Rattle.wide.specs.declared.Wide.{Wide}
@@ -11,19 +11,15 @@ use Rattle.prefixes.proofs.plain_of.Lts as lts
 use Rattle.prefixes.proofs.front_ipv4.Reads as front-ipv4-reads
 use Rattle.prefixes.proofs.front_ipv6.Reads as front-ipv6-reads
 
--- src/lib.rt:54:22
 front-ipv4-requires : tie.Need-front-ipv4-requires
 front-ipv4-requires c κs = search needs
 
--- src/lib.rt:57:13
 front-ipv6-requires : tie.Need-front-ipv6-requires
 front-ipv6-requires c κs = search needs
 
--- src/lib.rt:47:1
 returns : tie.Need-returns
 returns c = simp (le-leb _ _ (c .before .if1 .taken), c .front-ipv4 .ensures)
 
--- src/lib.rt:47:1
 returns-2 : tie.Need-returns-2
 returns-2 c = simp (lt-leb _ _ (c .before .if1 .left)) (ap (λ (w : Wide). Ipv6 (c .before .before .args .len) (w .high) (w .low)) (c .front-ipv6 .ensures))
 

@@ -1,4 +1,4 @@
--- `prefixes::valid` meets its contract: each form by its clause, with the tests decided. Assumes nothing.
+-- `prefixes::valid` meets its contract: each form by its clause, with the tests decided.
 use mathlib.Core.Path.{sym, ap, _∙_}
 use borrow.Author.Tests.{eq-eqb, ne-eqb, le-leb, lt-leb}
 use Rattle.prefixes.specs.Forms.{validIn}
@@ -12,63 +12,48 @@ use Rattle.prefixes.proofs.clean_ipv4.Reads as clean-ipv4-reads
 use Rattle.prefixes.proofs.clean_ipv6.Reads as clean-ipv6-reads
 use Rattle.prefixes.proofs.offset_fits.Reads as offset-fits-reads
 
--- src/lib.rt:249:31
 enum-known-prefix : tie.Need-enum-known-prefix
 enum-known-prefix c = search needs
 
--- src/lib.rt:252:21
 clean-ipv4-requires : tie.Need-clean-ipv4-requires
 clean-ipv4-requires c κs = search needs
 
--- src/lib.rt:252:21
 returns : tie.Need-returns
 returns c = c .clean-ipv4 .ensures ∙ sym (ap (λ p. validIn (c .before .before .before .before .before .before .args .family) p) (c .before .before .before .before .prefix .given .1) ∙ yes-yes _ _ _ (eq-eqb _ _ (c .before .before .if1 .taken)) (le-leb _ _ (c .before .if2 .taken)))
 
--- src/lib.rt:258:13
 enum-known-prefix-2 : tie.Need-enum-known-prefix-2
 enum-known-prefix-2 c = search needs
 
--- src/lib.rt:264:20
 offset-fits-requires : tie.Need-offset-fits-requires
 offset-fits-requires c κs = search needs
 
--- src/lib.rt:265:21
 clean-ipv6-requires : tie.Need-clean-ipv6-requires
 clean-ipv6-requires c κs = search needs
 
--- src/lib.rt:265:21
 returns-2 : tie.Need-returns-2
 returns-2 c = c .clean-ipv6 .ensures ∙ sym (ap (λ p. validIn (c .before .before .before .before .before .before .before .args .family) p) (c .before .before .before .before .before .prefix2 .given .1) ∙ yes-yes _ _ _ (eq-eqb _ _ (c .before .before .before .if3 .taken)) (sym (c .before .before .offset-fits .ensures) ∙ c .before .if4 .taken))
 
--- src/lib.rt:281:14
 enum-told : tie.Need-enum-told
 enum-told c = search needs
 
--- src/lib.rt:286:14
 enum-told-2 : tie.Need-enum-told-2
 enum-told-2 c = search needs
 
--- src/lib.rt:245:1
 returns-3 : tie.Need-returns-3
 returns-3 c = sym (ap (λ p. validIn (c .before .before .before .before .before .args .family) p) (c .before .before .before .prefix .given .1) ∙ yes-no _ _ _ (eq-eqb _ _ (c .before .if1 .taken)) (lt-leb _ _ (c .if2 .left)))
 
--- src/lib.rt:245:1
 returns-4 : tie.Need-returns-4
 returns-4 c = sym (ap (λ p. validIn (c .before .before .before .before .args .family) p) (c .before .before .prefix .given .1) ∙ no-one _ _ (ne-eqb _ _ (c .if1 .left)))
 
--- src/lib.rt:245:1
 returns-5 : tie.Need-returns-5
 returns-5 c = sym (ap (λ p. validIn (c .before .before .before .before .before .before .args .family) p) (c .before .before .before .before .prefix2 .given .1) ∙ yes-no _ _ _ (eq-eqb _ _ (c .before .before .if3 .taken)) (sym (c .before .offset-fits .ensures) ∙ c .if4 .left))
 
--- src/lib.rt:245:1
 returns-6 : tie.Need-returns-6
 returns-6 c = sym (ap (λ p. validIn (c .before .before .before .before .args .family) p) (c .before .before .prefix2 .given .1) ∙ no-one _ _ (ne-eqb _ _ (c .if3 .left)))
 
--- src/lib.rt:245:1
 returns-7 : tie.Need-returns-7
 returns-7 c = search needs
 
--- src/lib.rt:245:1
 returns-8 : tie.Need-returns-8
 returns-8 c = search needs
 

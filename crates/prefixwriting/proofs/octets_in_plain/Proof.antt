@@ -1,4 +1,4 @@
--- `prefixwriting::octets_in_plain` meets its contract: each form by its clause. Assumes nothing.
+-- `prefixwriting::octets_in_plain` meets its contract: each form by its clause.
 use Prim.Native.Nat.{ℕ, _+_, _-_}
 use mathlib.Core.Path.{sym, ap, _∙_}
 use Rattle.prefixwriting.specs.Writings.{octetsInPlain}
@@ -9,59 +9,45 @@ use Rattle.prefixwriting.proofs.octets_in_plain.Reads as reads
 use Rattle.prefixwriting.proofs.octets_in_plain.Lts as lts
 use Rattle.prefixes.proofs.octets_of.Reads as octets-of-reads
 
--- src/lib.rt:24:31
 enum-known-prefix : tie.Need-enum-known-prefix
 enum-known-prefix c = search needs
 
--- src/lib.rt:24:59
 octets-of-requires : tie.Need-octets-of-requires
 octets-of-requires c κs = search needs
 
--- src/lib.rt:24:55
 add-result : tie.Need-add-result
 add-result c = search needs
 
--- src/lib.rt:26:13
 enum-known-prefix-2 : tie.Need-enum-known-prefix-2
 enum-known-prefix-2 c = search needs
 
--- src/lib.rt:29:18
 octets-of-requires-2 : tie.Need-octets-of-requires-2
 octets-of-requires-2 c κs = search needs
 
--- src/lib.rt:29:14
 add-result-2 : tie.Need-add-result-2
 add-result-2 c = search needs
 
--- src/lib.rt:34:14
 enum-told : tie.Need-enum-told
 enum-told c = search needs
 
--- src/lib.rt:36:13
 enum-known-prefix-3 : tie.Need-enum-known-prefix-3
 enum-known-prefix-3 c = search needs
 
--- src/lib.rt:40:18
 octets-of-requires-3 : tie.Need-octets-of-requires-3
 octets-of-requires-3 c κs = search needs
 
--- src/lib.rt:40:14
 add-result-3 : tie.Need-add-result-3
 add-result-3 c = search needs
 
--- src/lib.rt:20:1
 returns : tie.Need-returns
 returns c = ap (λ (x : ℕ). 1 + x) (c .octets-of .ensures) ∙ sym (ap octetsInPlain (c .before .before .prefix .given .1))
 
--- src/lib.rt:20:1
 returns-2 : tie.Need-returns-2
 returns-2 c = ap (λ (x : ℕ). 1 + x) (c .octets-of2 .ensures) ∙ sym (ap octetsInPlain (c .before .before .prefix2 .given .1))
 
--- src/lib.rt:20:1
 returns-3 : tie.Need-returns-3
 returns-3 c = search needs
 
--- src/lib.rt:20:1
 returns-4 : tie.Need-returns-4
 returns-4 c = ap (λ (x : ℕ). 2 + x) (c .octets-of3 .ensures) ∙ sym (ap octetsInPlain (c .before .before .prefix3 .given .1))
 

@@ -1,4 +1,4 @@
--- `prefixwriting::octets_in_standard` meets its contract: each form by its clause. Assumes nothing.
+-- `prefixwriting::octets_in_standard` meets its contract: each form by its clause.
 use Prim.Native.Nat.{ℕ, _+_, _-_}
 use mathlib.Core.Path.{sym, ap, _∙_}
 use Rattle.prefixes.specs.Prefixes.{octetsOf}
@@ -11,55 +11,42 @@ use Rattle.prefixwriting.proofs.octets_in_standard.Lts as lts
 use Rattle.prefixes.proofs.octets_of.Reads as octets-of-reads
 use Rattle.prefixwriting.proofs.bits_between.Reads as bits-between-reads
 
--- src/lib.rt:58:31
 enum-known-prefix : tie.Need-enum-known-prefix
 enum-known-prefix c = search needs
 
--- src/lib.rt:58:59
 octets-of-requires : tie.Need-octets-of-requires
 octets-of-requires c κs = search needs
 
--- src/lib.rt:58:55
 add-result : tie.Need-add-result
 add-result c = search needs
 
--- src/lib.rt:60:13
 enum-known-prefix-2 : tie.Need-enum-known-prefix-2
 enum-known-prefix-2 c = search needs
 
--- src/lib.rt:64:38
 bits-between-requires : tie.Need-bits-between-requires
 bits-between-requires c κs = search needs
 
--- src/lib.rt:64:18
 octets-of-requires-2 : tie.Need-octets-of-requires-2
 octets-of-requires-2 c κs = search needs
 
--- src/lib.rt:64:14
 add-result-2 : tie.Need-add-result-2
 add-result-2 c = search needs
 
--- src/lib.rt:69:14
 enum-told : tie.Need-enum-told
 enum-told c = search needs
 
--- src/lib.rt:74:14
 enum-told-2 : tie.Need-enum-told-2
 enum-told-2 c = search needs
 
--- src/lib.rt:54:1
 returns : tie.Need-returns
 returns c = ap (λ (x : ℕ). 1 + x) (c .octets-of .ensures) ∙ sym (ap octetsInStandard (c .before .before .prefix .given .1))
 
--- src/lib.rt:54:1
 returns-2 : tie.Need-returns-2
 returns-2 c = ap (λ (x : ℕ). 2 + x) (c .octets-of2 .ensures ∙ ap octetsOf (c .before .bits-between .ensures)) ∙ sym (ap octetsInStandard (c .before .before .before .prefix2 .given .1))
 
--- src/lib.rt:54:1
 returns-3 : tie.Need-returns-3
 returns-3 c = search needs
 
--- src/lib.rt:54:1
 returns-4 : tie.Need-returns-4
 returns-4 c = search needs
 

@@ -1,4 +1,4 @@
--- `prefixwriting::put_bits` meets its contract: the bits are moved to the front of octets, and a cut at 128 does not show. Assumes nothing.
+-- `prefixwriting::put_bits` meets its contract: the bits are moved to the front of octets, and a cut at 128 does not show.
 use Prim.Native.Nat.{ℕ, _-_, _*_, _/_, _%_, _^_}
 use mathlib.Core.Path.{ap, _∙_}
 use mathlib.Core.List.{List, _∷_}
@@ -16,47 +16,36 @@ use Rattle.prefixes.proofs.octets_of.Reads as octets-of-reads
 use Rattle.prefixwriting.proofs.put_two.Reads as put-two-reads
 use Rattle.wide.proofs.moved.Reads as moved-reads
 
--- src/lib.rt:123:13
 sub-n : tie.Need-sub-n
 sub-n c = search needs
 
--- src/lib.rt:124:9
 octets-of-requires : tie.Need-octets-of-requires
 octets-of-requires c κs = search needs
 
--- src/lib.rt:125:28
 sub-moved : tie.Need-sub-moved
 sub-moved c = search needs
 
--- src/lib.rt:125:50
 cast-moved : tie.Need-cast-moved
 cast-moved c = search needs
 
--- src/lib.rt:125:46
 mul-moved : tie.Need-mul-moved
 mul-moved c = search needs
 
--- src/lib.rt:125:61
 cast-moved-2 : tie.Need-cast-moved-2
 cast-moved-2 c = search needs
 
--- src/lib.rt:125:46
 sub-moved-2 : tie.Need-sub-moved-2
 sub-moved-2 c = search needs
 
--- src/lib.rt:125:9
 moved-requires : tie.Need-moved-requires
 moved-requires c κs = search needs
 
--- src/lib.rt:126:5
 put-two-requires : tie.Need-put-two-requires
 put-two-requires c κs = search needs
 
--- src/lib.rt:119:1
 same-length : tie.Need-same-length
 same-length c = search needs
 
--- src/lib.rt:119:1
 returns : tie.Need-returns
 returns c = let a = c .before .before .before .before .before .before .before .args in let k = c .before .before .before .before .before .octets-of in c .before .before .put-two .ensures ∙ ap (λ (xs : List ℕ). sets (a .out .now) (a .at) (a .len ∷ a .off ∷ xs)) (spelled-of (k .result) (octetsOf (a .len - a .off)) (k .ensures) (c .before .before .before .before .moved .result) (λ (j : ℕ). num (a .w) / 2 ^ (128 - a .len) * 2 ^ (8 * j - (a .len - a .off)) % 2 ^ 128) (c .before .before .before .before .moved .ensures) ∙ spelled-128 (octetsOf (a .len - a .off)) (num (a .w) / 2 ^ (128 - a .len) * 2 ^ (8 * octetsOf (a .len - a .off) - (a .len - a .off))) (omega arith))
 

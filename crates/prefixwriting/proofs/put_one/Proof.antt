@@ -1,4 +1,4 @@
--- `prefixwriting::put_one` meets its contract: one octet, then the others from the next place on. Assumes nothing.
+-- `prefixwriting::put_one` meets its contract: one octet, then the others from the next place on.
 use Prim.Native.Nat.{_+_, _-_}
 use Rattle.octets.specs.Spell.{spelled}
 use Rattle.wide.specs.Numbers.{num}
@@ -10,23 +10,18 @@ use Rattle.prefixwriting.proofs.put_one.Reads as reads
 use Rattle.prefixwriting.proofs.put_one.Lts as lts
 use Rattle.octets.proofs.write_pattern.Reads as write-pattern-reads
 
--- src/lib.rt:83:5
 slice-write-out : tie.Need-slice-write-out
 slice-write-out c = search needs
 
--- src/lib.rt:84:16
 add-from : tie.Need-add-from
 add-from c = search needs
 
--- src/lib.rt:85:5
 write-pattern-requires : tie.Need-write-pattern-requires
 write-pattern-requires c κs = search needs
 
--- src/lib.rt:79:1
 same-length : tie.Need-same-length
 same-length c = let a = c .before .before .before .before .before .args in long-next (a .out .now) _ (a .at) (a .a) (a .at + 1) (spelled (a .k) (num (a .v))) (c .before .before .write-pattern .ensures)
 
--- src/lib.rt:79:1
 returns : tie.Need-returns
 returns c = let a = c .before .before .before .before .before .args in sets-next (a .out .now) _ (a .at) (a .a) (spelled (a .k) (num (a .v))) (c .before .before .write-pattern .ensures)
 

@@ -1,4 +1,4 @@
--- `prefixwriting::put_standard` meets its contract: each form by its clause. Assumes nothing.
+-- `prefixwriting::put_standard` meets its contract: each form by its clause.
 use Prim.Native.Nat.{_-_}
 use mathlib.Core.Path.{refl}
 use lib.ListN.{length}
@@ -12,23 +12,18 @@ use Rattle.prefixwriting.proofs.put_standard.Lts as lts
 use Rattle.prefixwriting.proofs.put_bits.Reads as put-bits-reads
 use Rattle.prefixwriting.proofs.put_front.Reads as put-front-reads
 
--- src/lib.rt:184:31
 enum-known-prefix : tie.Need-enum-known-prefix
 enum-known-prefix c = search needs
 
--- src/lib.rt:191:22
 cast-t13 : tie.Need-cast-t13
 cast-t13 c = search needs
 
--- src/lib.rt:184:52
 put-front-requires : tie.Need-put-front-requires
 put-front-requires c κs = let a = c .before .before .before .before .before .args in let r = c .before .before .before .before .before .pre in let g = c .before .before .prefix .given in standard-ipv4 (a .at) (length (a .out .now)) (r .0) (r .1) (g .0 .0) (g .0 .1 .0) (g .1)
 
--- src/lib.rt:195:13
 enum-known-prefix-2 : tie.Need-enum-known-prefix-2
 enum-known-prefix-2 c = search needs
 
--- src/lib.rt:199:14
 put-bits-requires : tie.Need-put-bits-requires
 put-bits-requires c κs = let a = c .before .before .before .before .before .args in let r = c .before .before .before .before .before .pre in let g = c .before .before .prefix2 .given in standard-ipv6 (a .at) (length (a .out .now)) (r .0) (r .1) (g .0 .0) (g .0 .1 .0) (g .0 .1 .1 .0) (g .0 .1 .1 .1 .0) (g .1)
 
@@ -38,27 +33,21 @@ enum-told c = search needs
 enum-told-2 : tie.Need-enum-told-2
 enum-told-2 c = search needs
 
--- src/lib.rt:179:1
 same-length : tie.Need-same-length
 same-length c = search needs
 
--- src/lib.rt:179:1
 returns : tie.Need-returns
 returns c = let a = c .before .before .before .before .before .before .before .before .args in let g = c .before .before .before .before .before .prefix .given in gives standardOctets (a .out .now) _ (a .at) _ (g .1) (low-only (g .0 .0) (g .0 .1 .0)) (c .before .before .put-front .ensures)
 
--- src/lib.rt:179:1
 same-length-2 : tie.Need-same-length-2
 same-length-2 c = search needs
 
--- src/lib.rt:179:1
 returns-2 : tie.Need-returns-2
 returns-2 c = let a = c .before .before .before .before .before .before .before .before .args in let g = c .before .before .before .before .before .prefix2 .given in gives standardOctets (a .out .now) _ (a .at) _ (g .1) refl (c .before .before .put-bits .ensures)
 
--- src/lib.rt:179:1
 returns-3 : tie.Need-returns-3
 returns-3 c = search needs
 
--- src/lib.rt:179:1
 returns-4 : tie.Need-returns-4
 returns-4 c = search needs
 

@@ -1,4 +1,4 @@
--- `prefixwriting::put_two` meets its contract: one octet, then the others from the next place on. Assumes nothing.
+-- `prefixwriting::put_two` meets its contract: one octet, then the others from the next place on.
 use Prim.Native.Nat.{_+_, _-_}
 use mathlib.Core.List.{_∷_}
 use native.Mathlib.Omega.{arith}
@@ -13,23 +13,18 @@ use Rattle.prefixwriting.proofs.put_two.Reads as reads
 use Rattle.prefixwriting.proofs.put_two.Lts as lts
 use Rattle.prefixwriting.proofs.put_one.Reads as put-one-reads
 
--- src/lib.rt:93:5
 slice-write-out : tie.Need-slice-write-out
 slice-write-out c = search needs
 
--- src/lib.rt:94:16
 add-from : tie.Need-add-from
 add-from c = search needs
 
--- src/lib.rt:95:5
 put-one-requires : tie.Need-put-one-requires
 put-one-requires c κs = let a = c .before .before .args in (simp length-set (omega arith), omega arith)
 
--- src/lib.rt:89:1
 same-length : tie.Need-same-length
 same-length c = let a = c .before .before .before .before .before .args in long-next (a .out .now) _ (a .at) (a .a) (a .at + 1) (a .b ∷ spelled (a .k) (num (a .v))) (c .before .before .put-one .ensures)
 
--- src/lib.rt:89:1
 returns : tie.Need-returns
 returns c = let a = c .before .before .before .before .before .args in sets-next (a .out .now) _ (a .at) (a .a) (a .b ∷ spelled (a .k) (num (a .v))) (c .before .before .put-one .ensures)
 

@@ -1,4 +1,4 @@
--- `ranking::compare_bits` meets its contract: the first n bits are shared, or in the order of the halves. Assumes nothing.
+-- `ranking::compare_bits` meets its contract: the first n bits are shared, or in the order of the halves.
 use mathlib.Core.Path.{_∙_}
 use Rattle.ranking.proofs.Leading.{bits-shared, by-lows, by-highs}
 use borrow.Author.Needs.{needs}

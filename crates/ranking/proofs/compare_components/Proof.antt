@@ -1,4 +1,4 @@
--- `ranking::compare_components` meets its contract: by the types, then by the contents. Assumes nothing.
+-- `ranking::compare_components` meets its contract: by the types, then by the contents.
 use mathlib.Core.Path.{sym, subst}
 use lib.ListN.{length}
 use Rattle.ranking.specs.declared.Content.{Content}

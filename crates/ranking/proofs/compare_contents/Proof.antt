@@ -1,4 +1,4 @@
--- `ranking::compare_contents` meets its contract: by the two contents. Assumes nothing.
+-- `ranking::compare_contents` meets its contract: by the two contents.
 use mathlib.Core.Path.{_∙_, subst}
 use lib.ListN.{length}
 use Rattle.ranking.specs.declared.Content.{Content}

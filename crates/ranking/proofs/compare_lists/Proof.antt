@@ -1,11 +1,10 @@
 -- `ranking::compare_lists` meets its contract. The invariant: the order of the two lists is that of what is left of them after i operators.
--- Assumes nothing.
 use mathlib.Core.Path.{_≡_, sym, _∙_}
 use Prim.Native.Nat.{_-_, _≤_}
 use borrow.Author.Needs.{needs}
 use native.Mathlib.Omega.{arith}
 use native.Mathlib.Nat.{min-le-left, min-le-right}
-use Rattle.choices.specs.Operators.{opsIn, listOctets}
+use Rattle.operators.specs.Ops.{opsIn, listOctets}
 use Rattle.ranking.specs.Ranks.{rankOctets, rankOp}
 use Rattle.ranking.proofs.Turns.{rest}
 use Rattle.ranking.proofs.Octets.{ops-first, ops-end, ops-turn}

@@ -1,4 +1,4 @@
--- `ranking::compare_numbers` meets its contract. Assumes nothing.
+-- `ranking::compare_numbers` meets its contract.
 use mathlib.Core.Path.{_≡_, sym}
 use native.Mathlib.Omega.{arith}
 use Rattle.ranking.proofs.Orders.{low-below, low-above, low-equal}

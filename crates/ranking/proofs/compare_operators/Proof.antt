@@ -1,4 +1,4 @@
--- `ranking::compare_operators` meets its contract. Assumes nothing.
+-- `ranking::compare_operators` meets its contract.
 use mathlib.Core.Path.{ap₂, _∙_}
 use Rattle.ranking.specs.Ranks.{lower, thenBy, rankOp}
 use borrow.Author.Needs.{needs}

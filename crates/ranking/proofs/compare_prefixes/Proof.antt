@@ -1,4 +1,4 @@
--- `ranking::compare_prefixes` meets its contract. Assumes nothing.
+-- `ranking::compare_prefixes` meets its contract.
 use mathlib.Core.Path.{ap, ap₂, _∙_}
 use Prim.Native.Nat.{ℕ}
 use Rattle.ranking.specs.declared.Front.{Front}

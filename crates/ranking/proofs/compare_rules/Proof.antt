@@ -1,5 +1,4 @@
 -- `ranking::compare_rules` meets its contract. The invariant: the order of the two rules is that of what is left of them after i components.
--- Assumes nothing.
 use mathlib.Core.Path.{_≡_, sym, _∙_}
 use Prim.Native.Nat.{_+_, _-_, _≤_, _<_}
 use borrow.Author.Needs.{needs}

@@ -1,4 +1,4 @@
--- `ranking::component_in` meets its contract. Assumes nothing.
+-- `ranking::component_in` meets its contract.
 use mathlib.Core.Path.{sym, ap, _∙_}
 use Rattle.ranking.specs.Ranks.{componentIn}
 use borrow.Author.Needs.{needs}

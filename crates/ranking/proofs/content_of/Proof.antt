@@ -1,4 +1,4 @@
--- `ranking::content_of` meets its contract. Each arm is the definition's clause. Assumes nothing.
+-- `ranking::content_of` meets its contract. Each arm is the definition's clause.
 use mathlib.Core.Path.{sym, ap}
 use Rattle.ranking.specs.Ranks.{contentOf}
 use borrow.Author.Needs.{needs}

@@ -1,4 +1,4 @@
--- `ranking::cut` meets its contract: the code names the width. Assumes nothing.
+-- `ranking::cut` meets its contract: the code names the width.
 use Prim.Native.Nat.{_/_, _%_}
 use mathlib.Core.Path.{_≡_, sym}
 use native.Mathlib.Omega.{arith}

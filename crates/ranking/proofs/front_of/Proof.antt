@@ -1,4 +1,4 @@
--- `ranking::front_of` meets its contract. Each arm is the definition's clause. Assumes nothing.
+-- `ranking::front_of` meets its contract. Each arm is the definition's clause.
 use mathlib.Core.Path.{sym, ap, _∙_}
 use Rattle.ranking.specs.Ranks.{frontOf}
 use borrow.Author.Needs.{needs}

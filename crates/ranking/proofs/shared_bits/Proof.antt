@@ -1,4 +1,4 @@
--- `ranking::shared_bits` meets its contract: equal upper halves, or others. Assumes nothing.
+-- `ranking::shared_bits` meets its contract: equal upper halves, or others.
 use Prim.Native.Nat.{ℕ, _+_}
 use mathlib.Core.Path.{subst}
 use Rattle.wide.specs.Numbers.{wide}

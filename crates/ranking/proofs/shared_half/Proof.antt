@@ -1,4 +1,4 @@
--- `ranking::shared_half` meets its contract. Assumes nothing.
+-- `ranking::shared_half` meets its contract.
 use Rattle.ranking.proofs.Leading.{shares}
 use Rattle.ranking.proofs.shared_half.Statement.{statement}
 use Rattle.ranking.proofs.shared_half.Tie as tie

@@ -1,4 +1,4 @@
--- `reading::parse_flowspec_nlri` meets its contract: the words of what was read are a rule's, so what is made of them is the rule. Assumes nothing.
+-- `reading::parse_flowspec_nlri` meets its contract: the words of what was read are a rule's, so what is made of them is the rule.
 use mathlib.Core.Path.{_∙_, ap}
 use mathlib.Core.List.{List}
 use Prim.Native.Nat.{ℕ}
@@ -15,31 +15,24 @@ use Rattle.reading.proofs.parse_flowspec_nlri.Lts as lts
 use Rattle.reading.proofs.read_into.Reads as read-into-reads
 use Rattle.stored.proofs.rule_at.Reads as rule-at-reads
 
--- src/lib.rt:259:51
 slice-aggregate-read-into : tie.Need-slice-aggregate-read-into
 slice-aggregate-read-into c = search needs
 
--- src/lib.rt:259:9
 read-into-requires : tie.Need-read-into-requires
 read-into-requires c κs = search needs
 
--- src/lib.rt:260:32
 slice-aggregate-rule-at : tie.Need-slice-aggregate-rule-at
 slice-aggregate-rule-at c = search needs
 
--- src/lib.rt:260:9
 rule-at-requires : tie.Need-rule-at-requires
 rule-at-requires c κs = search needs
 
--- src/lib.rt:252:1
 same-length : tie.Need-same-length
 same-length c = search needs
 
--- src/lib.rt:252:1
 same-length-2 : tie.Need-same-length-2
 same-length-2 c = search needs
 
--- src/lib.rt:252:1
 returns : tie.Need-returns
 returns c =
     let k = c .before in

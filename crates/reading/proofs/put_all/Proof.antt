@@ -1,4 +1,4 @@
--- `reading::put_all` meets its contract. `Heads.antt` has the invariant, `Head`, and what a turn does to it. Assumes nothing.
+-- `reading::put_all` meets its contract. `Heads.antt` has the invariant, `Head`, and what a turn does to it.
 use Prim.Native.Nat.{_-_, _≤_}
 use mathlib.Core.Path.{_∙_, ap}
 use native.Mathlib.Omega.{arith}
@@ -10,7 +10,7 @@ use Rattle.reading.proofs.put_all.Statement.{statement}
 use Rattle.reading.proofs.put_all.Tie as tie
 use Rattle.reading.proofs.put_all.Reads as reads
 use Rattle.reading.proofs.put_all.Lts as lts
-use Rattle.reading.proofs.family_of.Reads as family-of-reads
+use Rattle.choices.proofs.family_of.Reads as family-of-reads
 use Rattle.reading.proofs.put_part.Reads as put-part-reads
 use Rattle.stored.proofs.put_tail.Reads as put-tail-reads
 
@@ -22,26 +22,22 @@ abbrev μ-loop : tie.MeasureT-loop
 μ-loop reading s stop words₀ values₀ octets₀ at₀ start₀ count₀ words values octets at start count =
     length s - at
 
--- src/lib.rt:131:5
 loop-holds : tie.Need-loop-holds Inv-loop μ-loop
 loop-holds c =
     let g = c .before .before .before .before in
     (omega arith, head-first (g .args .reading) _ (g .args .stop) _ _ _ (g .pre .0) (g .pre .1 .0) (g .pre .1 .1))
 
--- src/lib.rt:132:49
 mul-put-part : tie.Need-mul-put-part Inv-loop μ-loop
 mul-put-part c =
     let h = few-of (c .before .before .loop .inv .1) in
     omega arith
 
--- src/lib.rt:132:13
 put-part-requires : tie.Need-put-part-requires Inv-loop μ-loop
 put-part-requires c κs =
     let i = c .before .before .before in
     let h = i .before .loop .inv .1 in
     (standing h (i .loop-test .taken), asked h (i .loop-test .taken))
 
--- src/lib.rt:134:9
 add-start : tie.Need-add-start Inv-loop μ-loop
 add-start c =
     let u = c .before .before .before .before .before .before .before in
@@ -49,20 +45,17 @@ add-start c =
     let l = i .before .loop in
     omega (arith, u .put-part .ensures .1 .1 .1 .1, bounds (l .inv .1) (i .loop-test .taken), l .inv .1 .place, i .before .before .before .before .before .before .good)
 
--- src/lib.rt:135:9
 add-count : tie.Need-add-count Inv-loop μ-loop
 add-count c =
     let h = few-of (c .before .before .before .before .before .before .before .before .before .before .before .before .loop .inv .1) in
     omega arith
 
--- src/lib.rt:131:5
 loop-less : tie.Need-loop-less Inv-loop μ-loop
 loop-less c =
     let u = c .before .before .before .before .before .before .before in
     let i = u .before .before .before .before in
     omega (arith, u .put-part .ensures .1 .1 .1 .0, bounds (i .before .loop .inv .1) (i .loop-test .taken))
 
--- src/lib.rt:131:5
 loop-again : tie.Need-loop-again Inv-loop μ-loop
 loop-again c =
     let u = c .before .before .before .before .before .before .before in
@@ -71,31 +64,25 @@ loop-again c =
     let h = i .before .loop .inv .1 in
     (omega (arith, e .1 .1 .1 .0, bounds h (i .loop-test .taken)), head-more h (i .loop-test .taken) _ _ _ (e .1 .1 .1 .0) (e .1 .1 .1 .1) (e .0) (e .1 .0) (e .1 .1 .0))
 
--- src/lib.rt:137:39
 family-of-requires : tie.Need-family-of-requires Inv-loop μ-loop
 family-of-requires c κs = search needs
 
--- src/lib.rt:137:5
 put-tail-requires : tie.Need-put-tail-requires Inv-loop μ-loop
 put-tail-requires c κs =
     let h = c .before .before .before .loop .inv .1 in
     (few-of h, omega (arith, h .in-words))
 
--- src/lib.rt:113:1
 same-length : tie.Need-same-length Inv-loop μ-loop
 same-length c =
     let p = c .before .before in
     ap length (p .put-tail .ensures) ∙ simp length-sets (p .before .before .before .before .loop .inv .1 .long-words)
 
--- src/lib.rt:113:1
 same-length-2 : tie.Need-same-length-2 Inv-loop μ-loop
 same-length-2 c = c .before .before .before .before .before .before .loop .inv .1 .long-values
 
--- src/lib.rt:113:1
 same-length-3 : tie.Need-same-length-3 Inv-loop μ-loop
 same-length-3 c = c .before .before .before .before .before .before .loop .inv .1 .long-octets
 
--- src/lib.rt:113:1
 returns : tie.Need-returns Inv-loop μ-loop
 returns c =
     let p = c .before .before in

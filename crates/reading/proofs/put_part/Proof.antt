@@ -1,4 +1,4 @@
--- `reading::put_part` meets its contract: what is stored is a prefix, by `prefix-post`, or a list, by `list-post`. Assumes nothing.
+-- `reading::put_part` meets its contract: what is stored is a prefix, by `prefix-post`, or a list, by `list-post`.
 use mathlib.Core.Path.{sym, _∙_, ap}
 use Rattle.prefixes.specs.Prefixes.{toldPrefix}
 use Rattle.reading.proofs.Pieces.{no-refusal, prefix-post, list-whole, list-room, list-post}
@@ -7,42 +7,34 @@ use Rattle.reading.proofs.put_part.Statement.{statement}
 use Rattle.reading.proofs.put_part.Tie as tie
 use Rattle.reading.proofs.put_part.Reads as reads
 use Rattle.reading.proofs.put_part.Lts as lts
-use Rattle.choices.proofs.kind_of.Reads as kind-of-reads
+use Rattle.operators.proofs.kind_of.Reads as kind-of-reads
 use Rattle.lists.proofs.fill.Reads as fill-reads
 use Rattle.rules.proofs.prefix_of.Reads as prefix-of-reads
 use Rattle.stored.proofs.put_component.Reads as put-component-reads
 use Rattle.stored.proofs.put_words.Reads as put-words-reads
 use Rattle.walk.proofs.prefix_at.Reads as prefix-at-reads
 
--- src/lib.rt:88:16
 shared-slice-read-kind : tie.Need-shared-slice-read-kind
 shared-slice-read-kind c = search needs
 
--- src/lib.rt:89:16
 add-from : tie.Need-add-from
 add-from c = search needs
 
--- src/lib.rt:91:15
 prefix-at-requires : tie.Need-prefix-at-requires
 prefix-at-requires c κs = search needs
 
--- src/lib.rt:92:33
 enum-known-prefix : tie.Need-enum-known-prefix
 enum-known-prefix c = search needs
 
--- src/lib.rt:93:52
 prefix-of-requires : tie.Need-prefix-of-requires
 prefix-of-requires c κs = search needs
 
--- src/lib.rt:93:17
 put-component-requires : tie.Need-put-component-requires
 put-component-requires c κs = search needs
 
--- src/lib.rt:94:17
 same-length : tie.Need-same-length
 same-length c = search needs
 
--- src/lib.rt:94:17
 returns : tie.Need-returns
 returns c =
     let u = c .before .before in
@@ -53,22 +45,18 @@ returns c =
     prefix-post (g .args .reading) (g .args .s .now) (g .args .at) (g .args .start) (g .pre .0) (a .before .if1 .taken) (g .args .words .now) (g .args .values .now) (g .args .octets .now) (g .args .word)
     (sym (ap toldPrefix (k .prefix .given .1)) ∙ a .prefix-at .ensures) (v .prefix-of .ensures) (u .put-component .ensures)
 
--- src/lib.rt:102:27
 enum-told : tie.Need-enum-told
 enum-told c = search needs
 
--- src/lib.rt:100:17
 returns-2 : tie.Need-returns-2
 returns-2 c =
     let a = c .before .before in
     let g = a .before .before .before .before .before .before .before in
     no-refusal (g .args .reading) (g .args .s .now) (g .args .at) (g .args .start) (g .pre .0) (a .before .if1 .taken) (sym (ap toldPrefix (c .enum-told .given .1)) ∙ a .prefix-at .ensures)
 
--- src/lib.rt:107:43
 kind-of-requires : tie.Need-kind-of-requires
 kind-of-requires c κs = search needs
 
--- src/lib.rt:107:9
 fill-requires : tie.Need-fill-requires
 fill-requires c κs =
     let q = c .before .before in
@@ -76,27 +64,21 @@ fill-requires c κs =
     let i = q .kind-of .ensures in
     (list-whole (g .args .reading) (g .args .s .now) (g .args .at) (g .args .start) (g .pre .0) (q .before .if1 .left) i, list-room (g .args .reading) (g .args .s .now) (g .args .at) (g .args .start) (g .pre .0) (q .before .if1 .left) i (g .pre .1 .1))
 
--- src/lib.rt:108:36
 cast-put-words : tie.Need-cast-put-words
 cast-put-words c = search needs
 
--- src/lib.rt:108:5
 put-words-requires : tie.Need-put-words-requires
 put-words-requires c κs = search needs
 
--- src/lib.rt:69:1
 same-length-2 : tie.Need-same-length-2
 same-length-2 c = search needs
 
--- src/lib.rt:69:1
 same-length-3 : tie.Need-same-length-3
 same-length-3 c = search needs
 
--- src/lib.rt:69:1
 same-length-4 : tie.Need-same-length-4
 same-length-4 c = search needs
 
--- src/lib.rt:69:1
 returns-3 : tie.Need-returns-3
 returns-3 c =
     let u = c .before .before in

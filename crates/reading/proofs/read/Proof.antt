@@ -1,6 +1,6 @@
--- `reading::read` meets its contract: the family names no reading, or the reading that it names goes. Assumes nothing.
+-- `reading::read` meets its contract: the family names no reading, or the reading that it names goes.
 use mathlib.Core.Path.{sym, _∙_, ap}
-use Rattle.reading.specs.Readings.{toldStandard}
+use Rattle.choices.specs.Choices.{toldStandard}
 use Rattle.reading.proofs.Intos.{bad-family, of-family}
 use borrow.Author.Needs.{needs}
 use Rattle.reading.proofs.read.Statement.{statement}
@@ -8,37 +8,29 @@ use Rattle.reading.proofs.read.Tie as tie
 use Rattle.reading.proofs.read.Reads as reads
 use Rattle.reading.proofs.read.Lts as lts
 use Rattle.reading.proofs.read_into.Reads as read-into-reads
-use Rattle.reading.proofs.reading_of.Reads as reading-of-reads
+use Rattle.choices.proofs.reading_of.Reads as reading-of-reads
 
--- src/lib.rt:245:11
 reading-of-requires : tie.Need-reading-of-requires
 reading-of-requires c κs = search needs
 
--- src/lib.rt:246:22
 enum-known-reading : tie.Need-enum-known-reading
 enum-known-reading c = search needs
 
--- src/lib.rt:246:34
 read-into-requires : tie.Need-read-into-requires
 read-into-requires c κs = search needs
 
--- src/lib.rt:247:27
 enum-known-fault : tie.Need-enum-known-fault
 enum-known-fault c = search needs
 
--- src/lib.rt:233:1
 same-length : tie.Need-same-length
 same-length c = search needs
 
--- src/lib.rt:233:1
 same-length-2 : tie.Need-same-length-2
 same-length-2 c = search needs
 
--- src/lib.rt:233:1
 same-length-3 : tie.Need-same-length-3
 same-length-3 c = search needs
 
--- src/lib.rt:233:1
 returns : tie.Need-returns
 returns c =
     let u = c .before .before .before .before .before .before in
@@ -47,7 +39,6 @@ returns c =
     let g = w .before .before .before .before .before in
     of-family (g .args .family) (g .args .input .now) (g .args .words .now) (g .args .values .now) (g .args .octets .now) (sym (ap toldStandard (k .reading .given .1)) ∙ w .reading-of .ensures) (u .read-into .ensures)
 
--- src/lib.rt:233:1
 returns-2 : tie.Need-returns-2
 returns-2 c =
     let w = c .before .before .before in

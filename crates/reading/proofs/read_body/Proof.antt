@@ -1,4 +1,4 @@
--- `reading::read_body` meets its contract: each return is one of the ways that a body goes. Assumes nothing.
+-- `reading::read_body` meets its contract: each return is one of the ways that a body goes.
 use Prim.Native.Nat.{_≤_}
 use mathlib.Core.Path.{sym, _∙_, ap}
 use native.Mathlib.Omega.{arith}
@@ -14,21 +14,17 @@ use Rattle.choices.proofs.bound.Reads as bound-reads
 use Rattle.reading.proofs.put_all.Reads as put-all-reads
 use Rattle.walk.proofs.walk.Reads as walk-reads
 
--- src/lib.rt:157:8
 sub-if1 : tie.Need-sub-if1
 sub-if1 c = search needs
 
--- src/lib.rt:158:9
 returns : tie.Need-returns
 returns c =
     let g = c .before .before .before .before .before in
     stated-past (g .args .reading) (g .args .input .now) (g .args .stated .next .at) (g .args .stated .size) (g .pre) (g .args .words .now) (g .args .values .now) (g .args .octets .now) (c .if1 .taken)
 
--- src/lib.rt:162:16
 add-used : tie.Need-add-used
 add-used c = search needs
 
--- src/lib.rt:163:9
 bound-requires : tie.Need-bound-requires
 bound-requires c κs = search needs
 
@@ -41,31 +37,24 @@ in-body c =
     let e = c .bound .ensures in
     (omega arith, omega arith)
 
--- src/lib.rt:164:16
 sub-body : tie.Need-sub-body
 sub-body c = (in-body c) .0
 
--- src/lib.rt:164:16
 part-body-start : tie.Need-part-body-start
 part-body-start c = (in-body c) .0
 
--- src/lib.rt:164:16
 part-body-end : tie.Need-part-body-end
 part-body-end c = (in-body c) .1
 
--- src/lib.rt:165:11
 walk-requires : tie.Need-walk-requires
 walk-requires c κs = search needs
 
--- src/lib.rt:166:25
 enum-known-fault : tie.Need-enum-known-fault
 enum-known-fault c = search needs
 
--- src/lib.rt:167:28
 enum-known-operators : tie.Need-enum-known-operators
 enum-known-operators c = search needs
 
--- src/lib.rt:169:17
 returns-2 : tie.Need-returns-2
 returns-2 c =
     let o = c .before in
@@ -75,7 +64,6 @@ returns-2 c =
     let q = sym (ap toldWalk (o .before .operators .given .1)) ∙ w .walk .ensures in
     no-words (g .args .reading) (g .args .input .now) (g .args .stated .next .at) (g .args .stated .size) (g .pre) (g .args .words .now) (g .args .values .now) (g .args .octets .now) (b .before .if1 .left) (b .bound .ensures) q (c .if2 .taken)
 
--- src/lib.rt:174:17
 returns-3 : tie.Need-returns-3
 returns-3 c =
     let o = c .before .before in
@@ -85,7 +73,6 @@ returns-3 c =
     let q = sym (ap toldWalk (o .before .operators .given .1)) ∙ w .walk .ensures in
     no-values (g .args .reading) (g .args .input .now) (g .args .stated .next .at) (g .args .stated .size) (g .pre) (g .args .words .now) (g .args .values .now) (g .args .octets .now) (b .before .if1 .left) (b .bound .ensures) q (c .before .if2 .left) (c .if3 .taken)
 
--- src/lib.rt:179:17
 returns-4 : tie.Need-returns-4
 returns-4 c =
     let o = c .before .before .before in
@@ -95,7 +82,6 @@ returns-4 c =
     let q = sym (ap toldWalk (o .before .operators .given .1)) ∙ w .walk .ensures in
     no-octets (g .args .reading) (g .args .input .now) (g .args .stated .next .at) (g .args .stated .size) (g .pre) (g .args .words .now) (g .args .values .now) (g .args .octets .now) (b .before .if1 .left) (b .bound .ensures) q (c .before .before .if2 .left) (c .if4 .taken)
 
--- src/lib.rt:183:13
 put-all-requires : tie.Need-put-all-requires
 put-all-requires c κs =
     let e = c .before .before .before in
@@ -106,7 +92,6 @@ put-all-requires c κs =
     let q = sym (ap toldWalk (o .before .operators .given .1)) ∙ w .walk .ensures in
     asked (g .args .reading) (g .args .input .now) (g .args .stated .next .at) (g .args .stated .size) (g .pre) (g .args .words .now) (g .args .values .now) (g .args .octets .now) (b .before .if1 .left) (b .bound .ensures) q (e .before .before .if2 .left) (e .before .if3 .left) (e .if4 .left)
 
--- src/lib.rt:141:1
 returns-5 : tie.Need-returns-5
 returns-5 c =
     let w = c .before .before .before in
@@ -114,19 +99,15 @@ returns-5 c =
     let g = b .before .before .before .before .before .before in
     walk-refused (g .args .reading) (g .args .input .now) (g .args .stated .next .at) (g .args .stated .size) (g .pre) (g .args .words .now) (g .args .values .now) (g .args .octets .now) (b .before .if1 .left) (b .bound .ensures) (sym (ap toldWalk (c .before .fault .given .1)) ∙ w .walk .ensures)
 
--- src/lib.rt:141:1
 same-length : tie.Need-same-length
 same-length c = search needs
 
--- src/lib.rt:141:1
 same-length-2 : tie.Need-same-length-2
 same-length-2 c = search needs
 
--- src/lib.rt:141:1
 same-length-3 : tie.Need-same-length-3
 same-length-3 c = search needs
 
--- src/lib.rt:141:1
 returns-6 : tie.Need-returns-6
 returns-6 c =
     let u = c .before .before .before .before .before .before in

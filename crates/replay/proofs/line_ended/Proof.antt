@@ -1,4 +1,4 @@
--- `replay::line_ended` is safe: the line is within its buffer. Assumes nothing.
+-- `replay::line_ended` is safe: the line is within its buffer.
 use lib.Seq.{length-take-le}
 use native.Mathlib.Omega.{arith}
 use mathlib.Core.Path.{sym}
@@ -11,47 +11,36 @@ use Rattle.io.proofs.write_all.Reads as write-all-reads
 use Rattle.replay.proofs.calls.agrees.Reads as agrees-reads
 use Rattle.std.proofs.num.wrapping_add_u64.Reads as wrapping-add-u64-reads
 
--- src/main.rt:18:9
 wrapping-add-u64-requires : tie.Need-wrapping-add-u64-requires
 wrapping-add-u64-requires c κs = search needs
 
--- src/main.rt:20:13
 slice-aggregate-request : tie.Need-slice-aggregate-request
 slice-aggregate-request c = sym (length-take-le _ _ (omega arith))
 
--- src/main.rt:21:12
 agrees-requires : tie.Need-agrees-requires
 agrees-requires c κs = search needs
 
--- src/main.rt:22:13
 returns : tie.Need-returns
 returns c = search needs
 
--- src/main.rt:28:38
 slice-aggregate-write-all : tie.Need-slice-aggregate-write-all
 slice-aggregate-write-all c = search needs
 
--- src/main.rt:28:9
 write-all-requires : tie.Need-write-all-requires
 write-all-requires c κs = search needs
 
--- src/main.rt:29:9
 write-all-requires-2 : tie.Need-write-all-requires-2
 write-all-requires-2 c κs = search needs
 
--- src/main.rt:30:38
 slice-aggregate-write-all-2 : tie.Need-slice-aggregate-write-all-2
 slice-aggregate-write-all-2 c = search needs
 
--- src/main.rt:30:9
 write-all-requires-3 : tie.Need-write-all-requires-3
 write-all-requires-3 c κs = search needs
 
--- src/main.rt:35:17
 wrapping-add-u64-requires-2 : tie.Need-wrapping-add-u64-requires-2
 wrapping-add-u64-requires-2 c κs = search needs
 
--- src/main.rt:16:1
 returns-2 : tie.Need-returns-2
 returns-2 c = search needs
 

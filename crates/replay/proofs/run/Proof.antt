@@ -1,4 +1,4 @@
--- `replay::run` is safe and ends: the turns that are left fall. Assumes nothing.
+-- `replay::run` is safe and ends: the turns that are left fall.
 use borrow.Author.Needs.{needs}
 use native.Mathlib.Omega.{arith}
 use lib.ListN.{length}
@@ -15,39 +15,30 @@ Inv-loop line₀ state₀ turns₀ line state turns = length line ≡ length lin
 abbrev μ-loop : tie.MeasureT-loop
 μ-loop line₀ state₀ turns₀ line state turns = turns
 
--- src/main.rt:98:5
 loop-holds : tie.Need-loop-holds Inv-loop μ-loop
 loop-holds c = refl
 
--- src/main.rt:99:13
 read-once-requires : tie.Need-read-once-requires Inv-loop μ-loop
 read-once-requires c κs = tt
 
--- src/main.rt:102:13
 same-length : tie.Need-same-length Inv-loop μ-loop
 same-length c = omega arith
 
--- src/main.rt:102:13
 returns : tie.Need-returns Inv-loop μ-loop
 returns c = tt
 
--- src/main.rt:104:9
 sub-turns : tie.Need-sub-turns Inv-loop μ-loop
 sub-turns c = omega arith
 
--- src/main.rt:98:5
 loop-less : tie.Need-loop-less Inv-loop μ-loop
 loop-less c = omega arith
 
--- src/main.rt:98:5
 loop-again : tie.Need-loop-again Inv-loop μ-loop
 loop-again c = omega arith
 
--- src/main.rt:91:1
 same-length-2 : tie.Need-same-length-2 Inv-loop μ-loop
 same-length-2 c = omega arith
 
--- src/main.rt:91:1
 returns-2 : tie.Need-returns-2 Inv-loop μ-loop
 returns-2 c = tt
 

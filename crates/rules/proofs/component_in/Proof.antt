@@ -1,4 +1,4 @@
--- `rules::component_in` meets its contract. Past the count or the slots there is nothing, and below both the slot's component is the list's. Assumes nothing.
+-- `rules::component_in` meets its contract. Past the count or the slots there is nothing, and below both the slot's component is the list's.
 use mathlib.Core.Path.{sym}
 use native.Mathlib.Omega.{arith}
 use borrow.Author.Needs.{needs}

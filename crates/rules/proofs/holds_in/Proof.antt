@@ -1,4 +1,4 @@
--- `rules::holds_in` meets its contract. The loop's invariant: whether one counts so among all is whether one does among those not passed yet. Assumes nothing.
+-- `rules::holds_in` meets its contract. The loop's invariant: whether one counts so among all is whether one does among those not passed yet.
 use Prim.Native.Nat.{_-_, _≤_, _<_}
 use mathlib.Core.Path.{_≡_, refl, sym, ap, _∙_}
 use native.Mathlib.Omega.{arith}

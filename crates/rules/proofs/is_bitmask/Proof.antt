@@ -1,4 +1,4 @@
--- `rules::is_bitmask` meets its contract. Each return rewrites with the test that led there. Assumes nothing.
+-- `rules::is_bitmask` meets its contract. Each return rewrites with the test that led there.
 use borrow.Author.Tests.{eq-eqb, ne-eqb}
 use Rattle.rules.proofs.is_bitmask.Statement.{statement}
 use Rattle.rules.proofs.is_bitmask.Tie as tie

@@ -1,4 +1,4 @@
--- `rules::is_numeric` meets its contract. Each return rewrites with the test that led there. Assumes nothing.
+-- `rules::is_numeric` meets its contract. Each return rewrites with the test that led there.
 use borrow.Author.Tests.{lt-ltb, le-ltb}
 use borrow.Author.Needs.{needs}
 use Rattle.rules.proofs.is_numeric.Statement.{statement}

@@ -1,4 +1,4 @@
--- `rules::list_of` meets its contract. Each arm rewrites with its type; the last with the types that it is not. Assumes nothing.
+-- `rules::list_of` meets its contract. Each arm rewrites with its type; the last with the types that it is not.
 use borrow.Author.Tests.{ne-eqb}
 use Rattle.rules.specs.Components.{listOf}
 use Rattle.rules.proofs.list_of.Statement.{statement}

@@ -1,4 +1,4 @@
--- `rules::prefix_of` meets its contract. Each return rewrites with the test that led there. Assumes nothing.
+-- `rules::prefix_of` meets its contract. Each return rewrites with the test that led there.
 use borrow.Author.Tests.{eq-eqb, ne-eqb}
 use Rattle.rules.proofs.prefix_of.Statement.{statement}
 use Rattle.rules.proofs.prefix_of.Tie as tie

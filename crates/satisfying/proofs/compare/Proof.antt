@@ -1,4 +1,4 @@
--- `satisfying::compare` meets its contract. The code is the definition. Assumes nothing.
+-- `satisfying::compare` meets its contract. The code is the definition.
 use mathlib.Core.Path.{refl}
 use Rattle.satisfying.specs.Lists.{compared}
 use Rattle.satisfying.proofs.compare.Statement.{statement}

@@ -1,4 +1,4 @@
--- `satisfying::data_match` meets its contract. Each arm is a law of `Groups`. Assumes nothing.
+-- `satisfying::data_match` meets its contract. Each arm is a law of `Groups`.
 use mathlib.Core.Path.{sym, _∙_, ap}
 use borrow.Author.Needs.{needs}
 use Rattle.satisfying.specs.Lists.{any, dataMatch}

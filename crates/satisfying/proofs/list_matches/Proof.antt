@@ -1,9 +1,9 @@
--- `satisfying::list_matches` meets its contract. The loop's invariant: the list is true just if, the group so far having its truth, what is left is. Assumes nothing.
+-- `satisfying::list_matches` meets its contract. The loop's invariant: the list is true just if, the group so far having its truth, what is left is.
 use Prim.Native.Nat.{_-_, _≤_}
 use mathlib.Core.Path.{_≡_, sym, _∙_}
 use native.Mathlib.Omega.{arith}
 use borrow.Author.Needs.{needs}
-use Rattle.choices.specs.Operators.{opsIn}
+use Rattle.operators.specs.Ops.{opsIn}
 use Rattle.satisfying.specs.Lists.{truthOf, listMatches}
 use Rattle.satisfying.proofs.Groups.{going, left, none-match, first-match, turn-on, turn-stop, turn-end}
 use Rattle.satisfying.proofs.list_matches.Statement.{statement}

@@ -1,4 +1,4 @@
--- `satisfying::mask` meets its contract. Each arm is a law of `Truths`. Assumes nothing.
+-- `satisfying::mask` meets its contract. Each arm is a law of `Truths`.
 use mathlib.Core.Path.{ap, _∙_}
 use mathlib.Core.Bool.{not}
 use borrow.Author.Needs.{needs}

@@ -1,4 +1,4 @@
--- `satisfying::meets` meets its contract. Each arm is a law of `Truths`. Assumes nothing.
+-- `satisfying::meets` meets its contract. Each arm is a law of `Truths`.
 use Rattle.satisfying.proofs.Truths.{all-bits, some-bits}
 use Rattle.satisfying.proofs.meets.Statement.{statement}
 use Rattle.satisfying.proofs.meets.Tie as tie

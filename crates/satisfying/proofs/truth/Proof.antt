@@ -1,4 +1,4 @@
--- `satisfying::truth` meets its contract. Each arm is the definition's clause. Assumes nothing.
+-- `satisfying::truth` meets its contract. Each arm is the definition's clause.
 use borrow.Author.Needs.{needs}
 use Rattle.satisfying.proofs.truth.Statement.{statement}
 use Rattle.satisfying.proofs.truth.Tie as tie

@@ -1,4 +1,4 @@
--- `stored::all_parts` meets its contract. The loop's invariant: the places not passed yet decide. Assumes nothing.
+-- `stored::all_parts` meets its contract. The loop's invariant: the places not passed yet decide.
 use Prim.Native.Nat.{ℕ, _+_, _-_, _*_, _≤_}
 use mathlib.Core.Path.{ap₂, _≡_, sym, ap, _∙_}
 use mathlib.Core.Bool.{true, false}

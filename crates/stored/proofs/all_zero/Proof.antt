@@ -1,4 +1,4 @@
--- `stored::all_zero` meets its contract. The loop's invariant: the words not passed yet decide. Assumes nothing.
+-- `stored::all_zero` meets its contract. The loop's invariant: the words not passed yet decide.
 use Prim.Native.Nat.{_-_, _≤_}
 use mathlib.Core.Path.{_≡_, refl, sym, _∙_}
 use native.Mathlib.Omega.{arith}

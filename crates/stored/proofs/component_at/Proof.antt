@@ -1,4 +1,4 @@
--- `stored::component_at` meets its contract. Each return is what its callee ensures, of the quad that stands there. Assumes nothing.
+-- `stored::component_at` meets its contract. Each return is what its callee ensures, of the quad that stands there.
 use mathlib.Core.Path.{ap, _∙_}
 use borrow.Author.Needs.{needs}
 use Rattle.stored.specs.Stored.{partOf, partAt}

@@ -1,4 +1,4 @@
--- `stored::component_of` meets its contract. Each return rewrites with the tests on the type that led there. Assumes nothing.
+-- `stored::component_of` meets its contract. Each return rewrites with the tests on the type that led there.
 use Prim.Native.Nat.{_%_}
 use mathlib.Core.Path.{ap, _∙_}
 use borrow.Author.Tests.{eq-eqb, ne-eqb, lt-ltb, le-ltb}

@@ -1,4 +1,4 @@
--- `stored::in_rule` meets its contract. By the case, and what component_type ensures. Assumes nothing.
+-- `stored::in_rule` meets its contract. By the case, and what component_type ensures.
 use mathlib.Core.Path.{sym, ap, _∙_}
 use mathlib.Core.Bool.{not}
 use lib.Dec.{eqb}

@@ -1,4 +1,4 @@
--- `stored::is_rule` meets its contract. Each return is the first test that fails, or the last test. Assumes nothing.
+-- `stored::is_rule` meets its contract. Each return is the first test that fails, or the last test.
 use mathlib.Core.Path.{sym, _∙_}
 use borrow.Author.Tests.{lt-leb, le-leb, lt-ltb, le-ltb, not-true, not-false}
 use borrow.Author.Needs.{needs}

@@ -1,4 +1,4 @@
--- `stored::list_in` meets its contract. Below 14 the type is the whole first word, so the last word alone decides; no list has a first word above 13. Assumes nothing.
+-- `stored::list_in` meets its contract. Below 14 the type is the whole first word, so the last word alone decides; no list has a first word above 13.
 use mathlib.Core.Path.{sym, ap, _∙_}
 use mathlib.Core.Bool.{true, false}
 use borrow.Author.Tests.{eq-eqb, ne-eqb}

@@ -1,4 +1,4 @@
--- `stored::network_of` meets its contract. Each arm rewrites with its form; the last with the forms that it is not. Assumes nothing.
+-- `stored::network_of` meets its contract. Each arm rewrites with its form; the last with the forms that it is not.
 use borrow.Author.Tests.{ne-eqb}
 use borrow.Author.Needs.{needs}
 use Rattle.stored.proofs.network_of.Statement.{statement}

@@ -1,4 +1,4 @@
--- `stored::nothing_in` meets its contract. The test is the definition's. Assumes nothing.
+-- `stored::nothing_in` meets its contract. The test is the definition's.
 use mathlib.Core.Path.{sym, _∙_}
 use mathlib.Core.Bool.{true, false}
 use borrow.Author.Needs.{needs}

@@ -1,4 +1,4 @@
--- `stored::places_needed` meets its contract. Each return rewrites with the test that led there. Assumes nothing.
+-- `stored::places_needed` meets its contract. Each return rewrites with the test that led there.
 use borrow.Author.Tests.{lt-ltb, le-ltb}
 use borrow.Author.Needs.{needs}
 use Rattle.stored.proofs.places_needed.Statement.{statement}

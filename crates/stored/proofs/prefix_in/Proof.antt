@@ -1,4 +1,4 @@
--- `stored::prefix_in` meets its contract. The test is the definition's, since the prefix and its words are. Assumes nothing.
+-- `stored::prefix_in` meets its contract. The test is the definition's, since the prefix and its words are.
 use mathlib.Core.Path.{sym, ap, _∙_}
 use mathlib.Core.Bool.{true, false}
 use borrow.Author.Needs.{needs}

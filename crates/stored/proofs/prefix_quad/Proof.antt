@@ -1,4 +1,4 @@
--- `stored::prefix_quad` meets its contract. Each arm is the definition's clause. Assumes nothing.
+-- `stored::prefix_quad` meets its contract. Each arm is the definition's clause.
 use mathlib.Core.Path.{sym, ap}
 use borrow.Author.Needs.{needs}
 use Rattle.stored.specs.Stored.{prefixQuad}

@@ -1,4 +1,4 @@
--- `stored::put_component` meets its contract. By what the two callees ensure. Assumes nothing.
+-- `stored::put_component` meets its contract. By what the two callees ensure.
 use mathlib.Core.Path.{ap, _∙_}
 use lib.Seq.{sets}
 use borrow.Author.Needs.{needs}

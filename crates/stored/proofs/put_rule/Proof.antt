@@ -1,4 +1,4 @@
--- `stored::put_rule` meets its contract. Each return is one of the ways that storePick goes; the two stores are one overlay. Assumes nothing.
+-- `stored::put_rule` meets its contract. Each return is one of the ways that storePick goes; the two stores are one overlay.
 use Prim.Native.Nat.{_*_}
 use mathlib.Core.Path.{sym, ap, _∙_}
 use mathlib.Core.List.{_∷_, []}

@@ -1,4 +1,4 @@
--- `stored::put_slots` meets its contract. The loop's invariant: what is left to store gives the whole overlay. Assumes nothing.
+-- `stored::put_slots` meets its contract. The loop's invariant: what is left to store gives the whole overlay.
 use Prim.Native.Nat.{ℕ, _+_, _-_, _*_, _≤_}
 use mathlib.Core.Path.{_≡_, refl, ap, _∙_}
 use native.Mathlib.Omega.{arith}

@@ -1,4 +1,4 @@
--- `stored::put_tail` meets its contract. The three stores are one overlay. Assumes nothing.
+-- `stored::put_tail` meets its contract. The three stores are one overlay.
 use borrow.Author.Needs.{needs}
 use Rattle.stored.proofs.Words.{tail-whole}
 use Rattle.stored.proofs.put_tail.Statement.{statement}

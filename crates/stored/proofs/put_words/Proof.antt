@@ -1,4 +1,4 @@
--- `stored::put_words` meets its contract. Four stores are one overlay. Assumes nothing.
+-- `stored::put_words` meets its contract. Four stores are one overlay.
 use native.Mathlib.Omega.{arith}
 use lib.ListN.{length-set}
 use borrow.Author.Needs.{needs}

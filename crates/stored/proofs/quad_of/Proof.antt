@@ -1,4 +1,4 @@
--- `stored::quad_of` meets its contract. Each arm is the definition's clause, by what its callee ensures. Assumes nothing.
+-- `stored::quad_of` meets its contract. Each arm is the definition's clause, by what its callee ensures.
 use mathlib.Core.Path.{sym, ap, _∙_}
 use borrow.Author.Needs.{needs}
 use Rattle.stored.specs.Stored.{quadOf}

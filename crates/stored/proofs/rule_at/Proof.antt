@@ -1,4 +1,4 @@
--- `stored::rule_at` meets its contract. Each return is one of the ways that ruleAt goes. Assumes nothing.
+-- `stored::rule_at` meets its contract. Each return is one of the ways that ruleAt goes.
 use Prim.Native.Nat.{_*_}
 use mathlib.Core.Path.{sym, ap, _∙_}
 use native.Mathlib.Omega.{arith}

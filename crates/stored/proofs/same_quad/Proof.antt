@@ -1,4 +1,4 @@
--- `stored::same_quad` meets its contract. Each return is the first test that fails, or the last test. Assumes nothing.
+-- `stored::same_quad` meets its contract. Each return is the first test that fails, or the last test.
 use borrow.Author.Tests.{eq-eqb, ne-eqb}
 use Rattle.stored.proofs.Tests.{all-four, not-first, not-second, not-third}
 use Rattle.stored.proofs.same_quad.Statement.{statement}

@@ -1,4 +1,4 @@
--- `stored::slots_at` meets its contract. The loop's invariant: the slots are those of the first i components, the others empty. Assumes nothing.
+-- `stored::slots_at` meets its contract. The loop's invariant: the slots are those of the first i components, the others empty.
 use Prim.Native.Nat.{_-_, _≤_}
 use mathlib.Core.Path.{_≡_, refl, ap, _∙_}
 use native.Mathlib.Omega.{arith}

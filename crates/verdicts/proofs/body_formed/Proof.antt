@@ -1,4 +1,4 @@
--- `verdicts::body_formed` meets its contract: what was measured decides. Assumes nothing.
+-- `verdicts::body_formed` meets its contract: what was measured decides.
 use mathlib.Core.Path.{sym, _∙_}
 use native.Mathlib.Omega.{arith}
 use Rattle.writing.proofs.Frames.{framed-count}

@@ -1,4 +1,4 @@
--- `verdicts::front_formed` meets its contract: by the frame, then by the family. Assumes nothing.
+-- `verdicts::front_formed` meets its contract: by the frame, then by the family.
 use mathlib.Core.Path.{sym, _∙_}
 use borrow.Author.Tests.{not-true, not-false}
 use Rattle.verdicts.proofs.Ways.{front-bad, front-four, front-six, front-none}

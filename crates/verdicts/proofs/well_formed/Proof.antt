@@ -1,4 +1,4 @@
--- `verdicts::well_formed` meets its contract: the part from a word on is tested. Assumes nothing.
+-- `verdicts::well_formed` meets its contract: the part from a word on is tested.
 use mathlib.Core.Path.{sym, _∙_}
 use native.Mathlib.Omega.{arith}
 use Rattle.verdicts.proofs.Ways.{too-few, left-formed}

@@ -1,4 +1,4 @@
--- `walk::bounded_end` meets its contract: each return is one of the ways that a bounded prefix goes. Assumes nothing.
+-- `walk::bounded_end` meets its contract: each return is one of the ways that a bounded prefix goes.
 use mathlib.Core.Path.{ap}
 use Rattle.prefixes.proofs.Readings.{bounded-missing, bounded-over, bounded-octets, octets-missing}
 use Rattle.walk.specs.Walks.{ended}
@@ -10,31 +10,24 @@ use Rattle.walk.proofs.bounded_end.Reads as reads
 use Rattle.walk.proofs.bounded_end.Lts as lts
 use Rattle.prefixes.proofs.octets_of.Reads as octets-of-reads
 
--- src/lib.rt:44:9
 returns : tie.Need-returns
 returns c = λ make. ap ended (bounded-missing _ make _ _ (c .if1 .taken))
 
--- src/lib.rt:48:15
 shared-slice-read-len : tie.Need-shared-slice-read-len
 shared-slice-read-len c = search needs
 
--- src/lib.rt:50:9
 returns-2 : tie.Need-returns-2
 returns-2 c = λ make. ap ended (bounded-over _ make _ _ (c .before .before .if1 .left) (c .if2 .taken))
 
--- src/lib.rt:54:9
 octets-of-requires : tie.Need-octets-of-requires
 octets-of-requires c κs = search needs
 
--- src/lib.rt:55:16
 add-from : tie.Need-add-from
 add-from c = search needs
 
--- src/lib.rt:56:8
 sub-if3 : tie.Need-sub-if3
 sub-if3 c = search needs
 
--- src/lib.rt:57:9
 returns-3 : tie.Need-returns-3
 returns-3 c =
     λ make.
@@ -42,11 +35,9 @@ returns-3 c =
     let e = o .before in
     ap ended (octets-missing _ _ _ _ _ (bounded-octets _ make _ _ (e .before .before .if1 .left) (e .if2 .left)) _ (o .octets-of .ensures) (c .if3 .taken))
 
--- src/lib.rt:63:28
 add-t8 : tie.Need-add-t8
 add-t8 c = search needs
 
--- src/lib.rt:39:1
 returns-4 : tie.Need-returns-4
 returns-4 c =
     λ make.

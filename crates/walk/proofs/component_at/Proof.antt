@@ -1,4 +1,4 @@
--- `walk::component_at` meets its contract: each return is one of the ways that a component goes. Assumes nothing.
+-- `walk::component_at` meets its contract: each return is one of the ways that a component goes.
 use mathlib.Core.Path.{sym, _∙_, ap}
 use native.Mathlib.Omega.{arith}
 use Rattle.lists.specs.Lists.{toldList}
@@ -9,43 +9,35 @@ use Rattle.walk.proofs.component_at.Statement.{statement}
 use Rattle.walk.proofs.component_at.Tie as tie
 use Rattle.walk.proofs.component_at.Reads as reads
 use Rattle.walk.proofs.component_at.Lts as lts
-use Rattle.choices.proofs.kind_of.Reads as kind-of-reads
+use Rattle.operators.proofs.kind_of.Reads as kind-of-reads
 use Rattle.choices.proofs.last_type.Reads as last-type-reads
 use Rattle.lists.proofs.measure.Reads as measure-reads
 use Rattle.walk.proofs.prefix_end.Reads as prefix-end-reads
 
--- src/lib.rt:120:9
 returns : tie.Need-returns
 returns c = λ start. sym (ap seen (found-missing _ _ _ _ start (c .if1 .taken)))
 
--- src/lib.rt:124:16
 shared-slice-read-kind : tie.Need-shared-slice-read-kind
 shared-slice-read-kind c = search needs
 
--- src/lib.rt:126:9
 returns-2 : tie.Need-returns-2
 returns-2 c = λ start. sym (ap seen (found-order _ _ _ _ start (c .before .before .if1 .left) (c .if2 .taken)))
 
--- src/lib.rt:133:8
 last-type-requires : tie.Need-last-type-requires
 last-type-requires c κs = search needs
 
--- src/lib.rt:134:9
 returns-3 : tie.Need-returns-3
 returns-3 c =
     λ start.
     let k = c .before .before in
     sym (ap seen (found-type _ _ _ _ start (k .before .before .if1 .left) (k .if2 .left) (omega (arith, c .before .last-type .ensures, c .if3 .taken))))
 
--- src/lib.rt:138:29
 add-t11 : tie.Need-add-t11
 add-t11 c = search needs
 
--- src/lib.rt:140:9
 prefix-end-requires : tie.Need-prefix-end-requires
 prefix-end-requires c κs = search needs
 
--- src/lib.rt:140:9
 returns-4 : tie.Need-returns-4
 returns-4 c =
     λ start.
@@ -53,23 +45,18 @@ returns-4 c =
     let k = e .before .before in
     prefix-seen _ _ _ _ start (k .before .before .if1 .left) (k .if2 .left) (omega (arith, e .before .last-type .ensures, e .if3 .left)) (c .before .if4 .taken) (c .prefix-end .ensures)
 
--- src/lib.rt:142:44
 kind-of-requires : tie.Need-kind-of-requires
 kind-of-requires c κs = search needs
 
--- src/lib.rt:142:11
 measure-requires : tie.Need-measure-requires
 measure-requires c κs = search needs
 
--- src/lib.rt:143:24
 enum-known-count : tie.Need-enum-known-count
 enum-known-count c = search needs
 
--- src/lib.rt:147:25
 enum-known-fault : tie.Need-enum-known-fault
 enum-known-fault c = search needs
 
--- src/lib.rt:115:1
 returns-5 : tie.Need-returns-5
 returns-5 c =
     λ start.
@@ -78,7 +65,6 @@ returns-5 c =
     let k = e .before .before in
     list-seen _ _ _ _ start (k .before .before .if1 .left) (k .if2 .left) (omega (arith, e .before .last-type .ensures, e .if3 .left)) (m .before .before .if4 .left) (m .before .kind-of .ensures) (sym (ap toldList (c .before .count .given .1)) ∙ m .measure .ensures)
 
--- src/lib.rt:115:1
 returns-6 : tie.Need-returns-6
 returns-6 c =
     λ start.

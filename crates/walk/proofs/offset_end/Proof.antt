@@ -1,4 +1,4 @@
--- `walk::offset_end` meets its contract: each return is one of the ways that a prefix with an offset goes. Assumes nothing.
+-- `walk::offset_end` meets its contract: each return is one of the ways that a prefix with an offset goes.
 use Prim.Native.Nat.{_+_}
 use mathlib.Core.Path.{sym, _∙_, ap}
 use lib.ListN.{getD}
@@ -14,66 +14,52 @@ use Rattle.walk.proofs.offset_end.Lts as lts
 use Rattle.prefixes.proofs.octets_of.Reads as octets-of-reads
 use Rattle.prefixes.proofs.offset_fits.Reads as offset-fits-reads
 
--- src/lib.rt:73:9
 returns : tie.Need-returns
 returns c = ap ended (ipv6-missing _ _ (c .if1 .taken))
 
--- src/lib.rt:77:15
 shared-slice-read-len : tie.Need-shared-slice-read-len
 shared-slice-read-len c = search needs
 
--- src/lib.rt:78:18
 add-second : tie.Need-add-second
 add-second c = search needs
 
--- src/lib.rt:80:9
 returns-2 : tie.Need-returns-2
 returns-2 c = ap ended (ipv6-no-offset _ _ (c .before .before .if1 .left) (c .if2 .taken))
 
--- src/lib.rt:84:15
 shared-slice-read-off : tie.Need-shared-slice-read-off
 shared-slice-read-off c = search needs
 
--- src/lib.rt:85:9
 offset-fits-requires : tie.Need-offset-fits-requires
 offset-fits-requires c κs = search needs
 
--- src/lib.rt:86:9
 returns-3 : tie.Need-returns-3
 returns-3 c =
     let e = c .before .before .before in
     ap ended (ipv6-over _ _ (e .before .before .if1 .left) (e .if2 .left) (sym (c .before .offset-fits .ensures) ∙ not-true _ (c .if3 .taken)))
 
--- src/lib.rt:90:33
 sub-octets-of : tie.Need-sub-octets-of
 sub-octets-of c =
     let a = c .before .before .before .before .before .before .before .args in
     (fits-le (getD (a .s .now) (a .c .at) 0) (getD (a .s .now) (a .c .at + 1) 0) (sym (c .before .offset-fits .ensures) ∙ not-false _ (c .if3 .left))) .0
 
--- src/lib.rt:90:9
 octets-of-requires : tie.Need-octets-of-requires
 octets-of-requires c κs = search needs
 
--- src/lib.rt:91:16
 add-from : tie.Need-add-from
 add-from c = search needs
 
--- src/lib.rt:92:8
 sub-if4 : tie.Need-sub-if4
 sub-if4 c = search needs
 
--- src/lib.rt:93:9
 returns-4 : tie.Need-returns-4
 returns-4 c =
     let f = c .before .before in
     let e = f .before .before .before in
     ap ended (octets-missing _ _ _ _ _ (ipv6-octets _ _ (e .before .before .if1 .left) (e .if2 .left) (sym (f .before .offset-fits .ensures) ∙ not-false _ (f .if3 .left))) _ (c .before .octets-of .ensures) (c .if4 .taken))
 
--- src/lib.rt:99:28
 add-t9 : tie.Need-add-t9
 add-t9 c = search needs
 
--- src/lib.rt:68:1
 returns-5 : tie.Need-returns-5
 returns-5 c =
     let f = c .before .before in

@@ -1,4 +1,4 @@
--- `walk::prefix_at` meets its contract, by cases over the reading. Assumes nothing.
+-- `walk::prefix_at` meets its contract, by cases over the reading.
 use borrow.Author.Needs.{needs}
 use Rattle.walk.proofs.prefix_at.Statement.{statement}
 use Rattle.walk.proofs.prefix_at.Tie as tie
@@ -8,39 +8,30 @@ use Rattle.prefixes.proofs.ipv4_prefix.Reads as ipv4-prefix-reads
 use Rattle.prefixes.proofs.ipv6_prefix.Reads as ipv6-prefix-reads
 use Rattle.prefixes.proofs.plain_prefix.Reads as plain-prefix-reads
 
--- src/lib.rt:32:27
 enum-told : tie.Need-enum-told
 enum-told c = search needs
 
--- src/lib.rt:32:27
 plain-prefix-requires : tie.Need-plain-prefix-requires
 plain-prefix-requires c κs = search needs
 
--- src/lib.rt:33:26
 enum-told-2 : tie.Need-enum-told-2
 enum-told-2 c = search needs
 
--- src/lib.rt:33:26
 ipv4-prefix-requires : tie.Need-ipv4-prefix-requires
 ipv4-prefix-requires c κs = search needs
 
--- src/lib.rt:34:26
 enum-told-3 : tie.Need-enum-told-3
 enum-told-3 c = search needs
 
--- src/lib.rt:34:26
 ipv6-prefix-requires : tie.Need-ipv6-prefix-requires
 ipv6-prefix-requires c κs = search needs
 
--- src/lib.rt:28:1
 returns : tie.Need-returns
 returns c = rw (c .before .enum-told .given .1) (c .plain-prefix .ensures)
 
--- src/lib.rt:28:1
 returns-2 : tie.Need-returns-2
 returns-2 c = rw (c .before .enum-told2 .given .1) (c .ipv4-prefix .ensures)
 
--- src/lib.rt:28:1
 returns-3 : tie.Need-returns-3
 returns-3 c = rw (c .before .enum-told3 .given .1) (c .ipv6-prefix .ensures)
 

@@ -1,5 +1,5 @@
 -- `walk::walk` meets its contract. The invariant, `Walking`: what the walk counts is what is passed and what is left at the cursor. The
--- measure: types rise. Assumes nothing.
+-- measure: types rise.
 use Prim.Native.Nat.{_-_}
 use mathlib.Core.Path.{_≡_, sym, _∙_, ap}
 use native.Mathlib.Omega.{arith}
@@ -19,19 +19,15 @@ Inv-loop reading s stop c₀ previous₀ operators₀ c previous operators = Wal
 abbrev μ-loop : tie.MeasureT-loop
 μ-loop reading s stop c₀ previous₀ operators₀ c previous operators = 13 - previous
 
--- src/lib.rt:159:5
 loop-holds : tie.Need-loop-holds Inv-loop μ-loop
 loop-holds c = walking-first _ _ _
 
--- src/lib.rt:162:13
 returns : tie.Need-returns Inv-loop μ-loop
 returns c = walking-end (c .before .loop .inv) (c .if1 .taken)
 
--- src/lib.rt:167:15
 component-at-requires : tie.Need-component-at-requires Inv-loop μ-loop
 component-at-requires c κs = search needs
 
--- src/lib.rt:169:28
 enum-known-more : tie.Need-enum-known-more Inv-loop μ-loop
 enum-known-more c = search needs
 
@@ -41,36 +37,30 @@ saw : (c : tie.After-known-told Inv-loop μ-loop)
     ≡ seen (componentAt (c .before .before .before .before .before .before .before .args .reading) (c .before .before .before .before .before .before .before .args .s .now) (c .before .before .before .before .before .loop .c .at) (c .before .before .before .before .before .loop .previous) (c .before .before .before .before .before .loop .operators))
 saw c = sym (ap toldFound (c .before .more .given .1)) ∙ c .before .before .before .component-at .ensures _
 
--- src/lib.rt:172:28
 shared-slice-read-previous : tie.Need-shared-slice-read-previous Inv-loop μ-loop
 shared-slice-read-previous c =
     let k = c .before in
     found-bounds (k .before .before .before .before .before .loop .inv) (k .before .before .before .before .if1 .left) (saw k) .0
 
--- src/lib.rt:174:17
 add-operators : tie.Need-add-operators Inv-loop μ-loop
 add-operators c =
     let k = c .before in
     let i = k .before .before .before .before .before .loop .inv in
     omega (arith, found-bounds i (k .before .before .before .before .if1 .left) (saw k), i .place, k .before .before .before .before .before .before .before .good)
 
--- src/lib.rt:159:5
 loop-less : tie.Need-loop-less Inv-loop μ-loop
 loop-less c =
     let k = c .before in
     omega (arith, found-bounds (k .before .before .before .before .before .loop .inv) (k .before .before .before .before .if1 .left) (saw k))
 
--- src/lib.rt:159:5
 loop-again : tie.Need-loop-again Inv-loop μ-loop
 loop-again c =
     let k = c .before in
     walking-more (k .before .before .before .before .before .loop .inv) (k .before .before .before .before .if1 .left) (saw k)
 
--- src/lib.rt:177:28
 enum-known-fault : tie.Need-enum-known-fault Inv-loop μ-loop
 enum-known-fault c = search needs
 
--- src/lib.rt:178:17
 returns-2 : tie.Need-returns-2 Inv-loop μ-loop
 returns-2 c =
     let a = c .before .before .before in

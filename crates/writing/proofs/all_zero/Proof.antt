@@ -1,4 +1,4 @@
--- `writing::all_zero` meets its contract. The invariant: all are 0 just if the bits so far and the words that are left are. Assumes nothing.
+-- `writing::all_zero` meets its contract. The invariant: all are 0 just if the bits so far and the words that are left are.
 use Prim.Native.Nat.{ℕ, _-_, _≤_}
 use mathlib.Core.Path.{_≡_, refl, sym, _∙_}
 use mathlib.Core.Bool.{_&&_}
@@ -18,34 +18,27 @@ Inv-loop words from to sum₀ at₀ sum at = (at ≤ to) × (zerosFrom (to - fro
 abbrev μ-loop : tie.MeasureT-loop
 μ-loop words from to sum₀ at₀ sum at = to - at
 
--- src/lib.rt:34:5
 loop-holds : tie.Need-loop-holds Inv-loop μ-loop
 loop-holds c = (omega arith, refl)
 
--- src/lib.rt:35:21
 mul-sum : tie.Need-mul-sum Inv-loop μ-loop
 mul-sum c = search needs
 
--- src/lib.rt:35:21
 shared-slice-read-sum : tie.Need-shared-slice-read-sum Inv-loop μ-loop
 shared-slice-read-sum c = search needs
 
--- src/lib.rt:36:9
 add-at : tie.Need-add-at Inv-loop μ-loop
 add-at c = search needs
 
--- src/lib.rt:34:5
 loop-less : tie.Need-loop-less Inv-loop μ-loop
 loop-less c = search needs
 
--- src/lib.rt:34:5
 loop-again : tie.Need-loop-again Inv-loop μ-loop
 loop-again c =
     let o = c .before .before in
     let a = o .before .args in
     (omega arith, o .loop .inv .1 ∙ scan-more (a .words .now) (o .loop .sum) (o .loop .at) (a .to) (omega arith))
 
--- src/lib.rt:28:1
 returns : tie.Need-returns Inv-loop μ-loop
 returns c =
     let o = c .before in

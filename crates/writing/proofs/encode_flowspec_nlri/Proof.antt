@@ -1,4 +1,4 @@
--- `writing::encode_flowspec_nlri` meets its contract, by what put_rule answers. Assumes nothing.
+-- `writing::encode_flowspec_nlri` meets its contract, by what put_rule answers.
 use Prim.Native.Nat.{ℕ}
 use mathlib.Core.Path.{_≡_, refl, sym, ap, _∙_}
 use lib.ListN.{length, replicate}
@@ -13,42 +13,33 @@ use Rattle.fitting.proofs.fit_rule.Reads as fit-rule-reads
 use Rattle.stored.proofs.put_rule.Reads as put-rule-reads
 use Rattle.writing.proofs.write_from.Reads as write-from-reads
 
--- src/lib.rt:163:35
 slice-aggregate-put-rule : tie.Need-slice-aggregate-put-rule
 slice-aggregate-put-rule c = search needs
 
--- src/lib.rt:163:9
 put-rule-requires : tie.Need-put-rule-requires
 put-rule-requires c κs = search needs
 
--- src/lib.rt:166:13
 enum-told : tie.Need-enum-told
 enum-told c = search needs
 
--- src/lib.rt:166:13
 fit-rule-requires : tie.Need-fit-rule-requires
 fit-rule-requires c κs =
     let s = c .before .before .before in
     let a = s .before .before .before .before .before .args in
     value-few (replicate 64 0) (a .nlri) refl (s .put-rule .result) (s .put-rule .ensures .0) (c .enum-told .given .1)
 
--- src/lib.rt:167:40
 slice-aggregate-write-from : tie.Need-slice-aggregate-write-from
 slice-aggregate-write-from c = search needs
 
--- src/lib.rt:167:13
 write-from-requires : tie.Need-write-from-requires
 write-from-requires c κs = search needs
 
--- src/lib.rt:169:25
 enum-known-stored : tie.Need-enum-known-stored
 enum-known-stored c = search needs
 
--- src/lib.rt:153:1
 same-length : tie.Need-same-length
 same-length c = search needs
 
--- src/lib.rt:153:1
 returns : tie.Need-returns
 returns c =
     let f = c .before .before .before .before .before in
@@ -56,7 +47,6 @@ returns c =
     let a = s .before .before .before .before .before .args in
     carried (a .out .now) (value-is (replicate 64 0) (a .nlri) refl (s .put-rule .result) (s .put-rule .ensures .0) (f .before .enum-told .given .1) (f .fit-rule .ensures .0) (f .fit-rule .ensures .1) (a .values .now) (a .octets .now) (length (a .out .now)) (s .put-rule .ensures .1)) (c .before .before .write-from .ensures)
 
--- src/lib.rt:153:1
 returns-2 : tie.Need-returns-2
 returns-2 c =
     let s = c .before .before .before .before in

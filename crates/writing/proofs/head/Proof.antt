@@ -1,4 +1,4 @@
--- `writing::head` meets its contract. Assumes nothing.
+-- `writing::head` meets its contract.
 use borrow.Author.Tests.{lt-ltb, le-ltb}
 use Rattle.octets.specs.Lengths.{lengthOctets}
 use borrow.Author.Needs.{needs}
@@ -7,12 +7,10 @@ use Rattle.writing.proofs.head.Tie as tie
 use Rattle.writing.proofs.head.Reads as reads
 use Rattle.writing.proofs.head.Lts as lts
 
--- src/lib.rt:64:9
 returns : tie.Need-returns
 unfolding lengthOctets
 returns c = rw (lt-ltb _ _ (c .if1 .taken))
 
--- src/lib.rt:60:1
 returns-2 : tie.Need-returns-2
 unfolding lengthOctets
 returns-2 c = rw (le-ltb _ _ (c .if1 .left))

@@ -1,4 +1,4 @@
--- `writing::is_framed` meets its contract: the tests in turn. Assumes nothing.
+-- `writing::is_framed` meets its contract: the tests in turn.
 use mathlib.Core.Path.{sym, ap, _∙_}
 use mathlib.Core.Bool.{_&&_}
 use native.Mathlib.Omega.{arith}
@@ -13,44 +13,35 @@ use Rattle.writing.proofs.is_framed.Reads as reads
 use Rattle.writing.proofs.is_framed.Lts as lts
 use Rattle.writing.proofs.all_zero.Reads as all-zero-reads
 
--- src/lib.rt:46:17
 shared-slice-read-count : tie.Need-shared-slice-read-count
 shared-slice-read-count c = search needs
 
--- src/lib.rt:48:9
 returns : tie.Need-returns
 unfolding framed
 returns c = rw (lt-leb _ _ (c .if1 .taken))
 
--- src/lib.rt:50:14
 shared-slice-read-if2 : tie.Need-shared-slice-read-if2
 shared-slice-read-if2 c = search needs
 
--- src/lib.rt:51:9
 returns-2 : tie.Need-returns-2
 unfolding framed
 returns-2 c = rw (le-leb _ _ (c .before .before .if1 .left), le-ltb _ _ (c .if2 .taken))
 
--- src/lib.rt:53:25
 mul-all-zero : tie.Need-mul-all-zero
 mul-all-zero c = search needs
 
--- src/lib.rt:53:9
 all-zero-requires : tie.Need-all-zero-requires
 all-zero-requires c κs = search needs
 
--- src/lib.rt:54:9
 returns-3 : tie.Need-returns-3
 returns-3 c =
     let e = c .before .before in
     let ws = e .before .before .before .before .before .args .words .now in
     sym (frame-by ws (e .before .before .if1 .left) (e .if2 .left) ∙ ap (λ t. t && zerosFrom 9 ws 55) (sym (c .before .all-zero .ensures) ∙ not-true _ (c .if3 .taken)))
 
--- src/lib.rt:56:5
 all-zero-requires-2 : tie.Need-all-zero-requires-2
 all-zero-requires-2 c κs = search needs
 
--- src/lib.rt:42:1
 returns-4 : tie.Need-returns-4
 returns-4 c =
     let e = c .before .before .before in

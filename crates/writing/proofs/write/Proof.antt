@@ -1,4 +1,4 @@
--- `writing::write` meets its contract, by the family. Assumes nothing.
+-- `writing::write` meets its contract, by the family.
 use Prim.Native.Nat.{ℕ}
 use mathlib.Core.Path.{_≡_, sym, _∙_}
 use native.Mathlib.Omega.{arith}
@@ -11,37 +11,30 @@ use Rattle.writing.proofs.write.Reads as reads
 use Rattle.writing.proofs.write.Lts as lts
 use Rattle.writing.proofs.write_from.Reads as write-from-reads
 
--- src/lib.rt:144:14
 write-from-requires : tie.Need-write-from-requires
 write-from-requires c κs = search needs
 
--- src/lib.rt:145:14
 write-from-requires-2 : tie.Need-write-from-requires-2
 write-from-requires-2 c κs = search needs
 
--- src/lib.rt:133:1
 same-length : tie.Need-same-length
 same-length c = search needs
 
--- src/lib.rt:133:1
 returns : tie.Need-returns
 returns c =
     let m = c .before .before .before .before in
     let a = m .before .before .before .before .before .args in
     carried (a .out .now) (in-four (a .family) (a .words .now) (a .values .now) (a .octets .now) (length (a .out .now)) (m .match .keys1)) (c .before .before .write-from .ensures)
 
--- src/lib.rt:133:1
 same-length-2 : tie.Need-same-length-2
 same-length-2 c = search needs
 
--- src/lib.rt:133:1
 returns-2 : tie.Need-returns-2
 returns-2 c =
     let m = c .before .before .before .before in
     let a = m .before .before .before .before .before .args in
     carried (a .out .now) (in-six (a .family) (a .words .now) (a .values .now) (a .octets .now) (length (a .out .now)) (m .match .keys2)) (c .before .before .write-from2 .ensures)
 
--- src/lib.rt:133:1
 returns-3 : tie.Need-returns-3
 returns-3 c =
     let a = c .before .before .before .before .before .args in

@@ -1,4 +1,4 @@
--- `writing::write_body` meets its contract. `Frames.antt` has the ways that it goes. Assumes nothing.
+-- `writing::write_body` meets its contract. `Frames.antt` has the ways that it goes.
 use Prim.Native.Nat.{ℕ, _+_}
 use mathlib.Core.Path.{_≡_, refl, sym, ap, _∙_}
 use native.Mathlib.Omega.{arith}
@@ -18,26 +18,21 @@ use Rattle.measuring.proofs.measure.Reads as measure-reads
 use Rattle.octets.proofs.encode_length.Reads as encode-length-reads
 use Rattle.writing.proofs.head.Reads as head-reads
 
--- src/lib.rt:83:9
 measure-requires : tie.Need-measure-requires
 measure-requires c κs = search needs
 
--- src/lib.rt:84:24
 enum-known-m : tie.Need-enum-known-m
 enum-known-m c = search needs
 
--- src/lib.rt:86:20
 enum-told : tie.Need-enum-told
 enum-told c = search needs
 
--- src/lib.rt:85:9
 returns : tie.Need-returns
 returns c =
     let g = c .before .before in
     let a = g .before .before .before .before .before .args in
     body-bad (a .writing) (a .words .now) (a .count) (a .first) (a .values .now) (a .octets .now) (a .out .now) (measured-none (wholeOf (a .writing) (a .words .now) (a .count) (a .first) (a .values .now) (a .octets .now) (a .out .now)) (length (bodyOf (a .writing) (a .words .now) (a .count) (a .first) (a .values .now) (a .octets .now) (a .out .now))) (sym (g .measure .ensures) ∙ c .enum-told .given .1))
 
--- src/lib.rt:90:9
 returns-2 : tie.Need-returns-2
 returns-2 c =
     let k = c .before in
@@ -46,16 +41,13 @@ returns-2 c =
     let b = measured-body (wholeOf (a .writing) (a .words .now) (a .count) (a .first) (a .values .now) (a .octets .now) (a .out .now)) (length (bodyOf (a .writing) (a .words .now) (a .count) (a .first) (a .values .now) (a .octets .now) (a .out .now))) (sym (g .measure .ensures) ∙ k .before .m .given .1) in
     body-large (a .writing) (a .words .now) (a .count) (a .first) (a .values .now) (a .octets .now) (a .out .now) (b .0) _ (b .1) (c .if1 .taken)
 
--- src/lib.rt:94:9
 head-requires : tie.Need-head-requires
 head-requires c κs = search needs
 
--- src/lib.rt:95:17
 add-whole : tie.Need-add-whole
 add-whole c =
     omega (arith, c .head .ensures, head-most (c .before .before .before .m .given .0 .0))
 
--- src/lib.rt:97:9
 returns-3 : tie.Need-returns-3
 returns-3 c =
     let k = c .before .before .before in
@@ -65,11 +57,9 @@ returns-3 c =
     let b = measured-body (wholeOf (a .writing) (a .words .now) (a .count) (a .first) (a .values .now) (a .octets .now) (a .out .now)) (length (bodyOf (a .writing) (a .words .now) (a .count) (a .first) (a .values .now) (a .octets .now) (a .out .now))) (sym (g .measure .ensures) ∙ k .before .m .given .1) in
     body-short (a .writing) (a .words .now) (a .count) (a .first) (a .values .now) (a .octets .now) (a .out .now) (b .0) _ (b .1) (omega arith) _ (c .before .head .ensures) (omega arith)
 
--- src/lib.rt:101:5
 encode-length-requires : tie.Need-encode-length-requires
 encode-length-requires c κs = search needs
 
--- src/lib.rt:102:5
 put-body-requires : tie.Need-put-body-requires
 put-body-requires c κs =
     let k = c .before .before .before .before .before .before .before .before in
@@ -81,7 +71,6 @@ put-body-requires c κs =
     let n : length (e .encode-length .last .1 .0) ≡ length (a .out .now) = ap length (e .encode-length .ensures .1) ∙ length-sets (a .out .now) 0 (lengthInto (k .before .m .given .0 .0) (length (a .out .now))) in
     (s .pre .1, ((body-parts (a .writing) (a .words .now) (a .count) (a .first) (a .values .now) (a .octets .now) (a .out .now) (b .0), body-taken (a .writing) (a .words .now) (a .count) (a .first) (a .values .now) (a .octets .now) (a .out .now) (b .0)), omega (arith, n, b .1, c .before .before .before .before .before .if2 .left)))
 
--- src/lib.rt:70:1
 same-length : tie.Need-same-length
 same-length c =
     let k = c .before .before .before .before .before .before .before .before .before .before .before in
@@ -92,7 +81,6 @@ same-length c =
     let h = c .before .before .before .before .before .before .before .before .before in
     kept (a .out .now) 0 (octetsIn (writtenBody (a .writing) (a .words .now) (a .count) (a .first) (a .values .now) (a .octets .now) (length (a .out .now)))) (body-done (a .writing) (a .words .now) (a .count) (a .first) (a .values .now) (a .octets .now) (a .out .now) (b .0) _ (b .1) (h .before .if1 .left) _ (h .head .ensures) (c .before .before .before .before .before .before .before .before .if2 .left) (c .before .before .before .before .before .before .encode-length .ensures .1) (c .before .before .put-body .ensures) .1)
 
--- src/lib.rt:70:1
 returns-4 : tie.Need-returns-4
 returns-4 c =
     let k = c .before .before .before .before .before .before .before .before .before .before .before in

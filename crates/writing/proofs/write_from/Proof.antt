@@ -1,4 +1,4 @@
--- `writing::write_from` meets its contract: the frame is tested first, the components by the walk. Assumes nothing.
+-- `writing::write_from` meets its contract: the frame is tested first, the components by the walk.
 use Prim.Native.Nat.{ℕ}
 use mathlib.Core.Path.{_≡_, sym, _∙_}
 use native.Mathlib.Omega.{arith}
@@ -14,32 +14,26 @@ use Rattle.writing.proofs.write_from.Lts as lts
 use Rattle.writing.proofs.is_framed.Reads as is-framed-reads
 use Rattle.writing.proofs.write_body.Reads as write-body-reads
 
--- src/lib.rt:118:9
 returns : tie.Need-returns
 returns c =
     let a = c .before .before .before .before .before .args in
     refused _ (a .out .now) (few-words (a .words .now) (a .writing) (a .values .now) (a .octets .now) (length (a .out .now)) (c .if1 .taken))
 
--- src/lib.rt:122:9
 is-framed-requires : tie.Need-is-framed-requires
 is-framed-requires c κs = search needs
 
--- src/lib.rt:123:9
 returns-2 : tie.Need-returns-2
 returns-2 c =
     let e = c .before .before in
     let a = e .before .before .before .before .before .args in
     refused _ (a .out .now) (no-frame (a .words .now) (a .writing) (a .values .now) (a .octets .now) (length (a .out .now)) (e .if1 .left) (sym (c .before .is-framed .ensures) ∙ not-true _ (c .if2 .taken)))
 
--- src/lib.rt:127:17
 shared-slice-read-count : tie.Need-shared-slice-read-count
 shared-slice-read-count c = search needs
 
--- src/lib.rt:128:17
 shared-slice-read-first : tie.Need-shared-slice-read-first
 shared-slice-read-first c = search needs
 
--- src/lib.rt:129:5
 write-body-requires : tie.Need-write-body-requires
 write-body-requires c κs =
     let f = c .before .before .before in
@@ -48,11 +42,9 @@ write-body-requires c κs =
     let n = framed-count (a .words .now) (sym (f .before .is-framed .ensures) ∙ not-false _ (f .if2 .left)) in
     (n, omega (arith, n, e .if1 .left))
 
--- src/lib.rt:107:1
 same-length : tie.Need-same-length
 same-length c = search needs
 
--- src/lib.rt:107:1
 returns-3 : tie.Need-returns-3
 returns-3 c =
     let f = c .before .before .before .before .before .before in

@@ -1,4 +1,4 @@
--- `krubbadin::deciding::choice_answer` meets its contract, by the answer. Assumes nothing.
+-- `krubbadin::deciding::choice_answer` meets its contract, by the answer.
 use Rattle.krubbadin.specs.Deciding.{choiceAnswer}
 use Rattle.choosing.specs.Choosing.{toldChosen}
 use Rattle.choosing.specs.declared.Chosen.{Chosen}
@@ -11,39 +11,30 @@ use Rattle.krubbadin.proofs.deciding.choice_answer.Lts as lts
 use Rattle.krubbadin.proofs.deciding.given.Reads as given-reads
 use Rattle.krubbadin.proofs.refused.Reads as refused-reads
 
--- src/deciding.rt:90:22
 enum-known-r : tie.Need-enum-known-r
 enum-known-r c = search needs
 
--- src/deciding.rt:90:32
 given-requires : tie.Need-given-requires
 given-requires c κs = search needs
 
--- src/deciding.rt:91:27
 enum-told : tie.Need-enum-told
 enum-told c = search needs
 
--- src/deciding.rt:91:27
 given-requires-2 : tie.Need-given-requires-2
 given-requires-2 c κs = search needs
 
--- src/deciding.rt:92:25
 enum-known-r-2 : tie.Need-enum-known-r-2
 enum-known-r-2 c = search needs
 
--- src/deciding.rt:92:35
 refused-requires : tie.Need-refused-requires
 refused-requires c κs = search needs
 
--- src/deciding.rt:86:1
 returns : tie.Need-returns
 returns c = c .given .ensures ∙ sym (ap (λ (x : Chosen). choiceAnswer (toldChosen x)) (c .before .before .r .given .1))
 
--- src/deciding.rt:86:1
 returns-2 : tie.Need-returns-2
 returns-2 c = c .given2 .ensures ∙ sym (ap (λ (x : Chosen). choiceAnswer (toldChosen x)) (c .before .enum-told .given .1))
 
--- src/deciding.rt:86:1
 returns-3 : tie.Need-returns-3
 returns-3 c = c .refused .ensures ∙ sym (ap (λ (x : Chosen). choiceAnswer (toldChosen x)) (c .before .before .r2 .given .1))
 

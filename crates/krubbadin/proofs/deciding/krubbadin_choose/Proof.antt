@@ -1,4 +1,4 @@
--- `krubbadin::deciding::krubbadin_choose` meets its contract. Assumes nothing.
+-- `krubbadin::deciding::krubbadin_choose` meets its contract.
 use Rattle.krubbadin.specs.Deciding.{choiceAnswer}
 use Rattle.choosing.specs.Choosing.{table, chosenIn}
 use Rattle.packets.specs.declared.Packet.{Packet}
@@ -12,19 +12,15 @@ use Rattle.choosing.proofs.choose.Reads as choose-reads
 use Rattle.krubbadin.proofs.deciding.choice_answer.Reads as choice-answer-reads
 use Rattle.packets.proofs.packet_at.Reads as packet-at-reads
 
--- src/deciding.rt:107:59
 packet-at-requires : tie.Need-packet-at-requires
 packet-at-requires c κs = search needs
 
--- src/deciding.rt:107:19
 choose-requires : tie.Need-choose-requires
 choose-requires c κs = search needs
 
--- src/deciding.rt:107:5
 choice-answer-requires : tie.Need-choice-answer-requires
 choice-answer-requires c κs = search needs
 
--- src/deciding.rt:98:1
 returns : tie.Need-returns
 returns c = let g = c .before .before .before .before .before .before .before .args in c .choice-answer .ensures ∙ ap choiceAnswer (c .before .choose .ensures .0 ∙ ap (λ (p : Packet). chosenIn (table (g .words .now) (g .values .now) (g .octets .now)) p) (c .before .before .packet-at .ensures))
 

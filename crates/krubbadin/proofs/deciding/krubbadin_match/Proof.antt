@@ -1,4 +1,4 @@
--- `krubbadin::deciding::krubbadin_match` meets its contract. Assumes nothing.
+-- `krubbadin::deciding::krubbadin_match` meets its contract.
 use Rattle.krubbadin.specs.Deciding.{matchAnswer}
 use Rattle.verdicts.specs.Verdicts.{matchVerdict}
 use Rattle.packets.specs.declared.Packet.{Packet}
@@ -12,19 +12,15 @@ use Rattle.krubbadin.proofs.deciding.match_answer.Reads as match-answer
 use Rattle.packets.proofs.packet_at.Reads as packet-at-reads
 use Rattle.verdicts.proofs.matches.Reads as matches-reads
 
--- src/deciding.rt:51:9
 packet-at-requires : tie.Need-packet-at-requires
 packet-at-requires c κs = search needs
 
--- src/deciding.rt:47:18
 matches-requires : tie.Need-matches-requires
 matches-requires c κs = search needs
 
--- src/deciding.rt:47:5
 match-answer-requires : tie.Need-match-answer-requires
 match-answer-requires c κs = search needs
 
--- src/deciding.rt:38:1
 returns : tie.Need-returns
 returns c = let g = c .before .before .before .before .before .before .before .args in c .match-answer .ensures ∙ ap matchAnswer (c .before .matches .ensures ∙ ap (λ (p : Packet). matchVerdict (g .words .now) (g .values .now) (g .octets .now) p) (c .before .before .packet-at .ensures))
 

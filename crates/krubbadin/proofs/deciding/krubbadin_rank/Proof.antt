@@ -1,4 +1,4 @@
--- `krubbadin::deciding::krubbadin_rank` meets its contract. Assumes nothing.
+-- `krubbadin::deciding::krubbadin_rank` meets its contract.
 use Rattle.krubbadin.specs.Deciding.{rankAnswer}
 use mathlib.Core.Path.{ap, _∙_}
 use borrow.Author.Needs.{needs}
@@ -9,15 +9,12 @@ use Rattle.krubbadin.proofs.deciding.krubbadin_rank.Lts as lts
 use Rattle.krubbadin.proofs.deciding.rank_answer.Reads as rank-answer-reads
 use Rattle.verdicts.proofs.rank.Reads as rank-reads
 
--- src/deciding.rt:86:17
 rank-requires : tie.Need-rank-requires
 rank-requires c κs = search needs
 
--- src/deciding.rt:86:5
 rank-answer-requires : tie.Need-rank-answer-requires
 rank-answer-requires c κs = search needs
 
--- src/deciding.rt:75:1
 returns : tie.Need-returns
 returns c = c .rank-answer .ensures ∙ ap rankAnswer (c .before .rank .ensures)
 

@@ -1,4 +1,4 @@
--- `krubbadin::deciding::match_answer` meets its contract, by the answer. Assumes nothing.
+-- `krubbadin::deciding::match_answer` meets its contract, by the answer.
 use Rattle.krubbadin.specs.Deciding.{givenWith, matchAnswer}
 use Rattle.verdicts.specs.Verdicts.{toldMatched}
 use Rattle.verdicts.specs.declared.Matched.{Matched}
@@ -13,31 +13,24 @@ use Rattle.krubbadin.proofs.deciding.given.Reads as given-reads
 use Rattle.krubbadin.proofs.deciding.truth.Reads as truth-reads
 use Rattle.krubbadin.proofs.refused.Reads as refused-reads
 
--- src/deciding.rt:32:21
 enum-known-r : tie.Need-enum-known-r
 enum-known-r c = search needs
 
--- src/deciding.rt:32:33
 truth-requires : tie.Need-truth-requires
 truth-requires c κs = search needs
 
--- src/deciding.rt:32:27
 given-requires : tie.Need-given-requires
 given-requires c κs = search needs
 
--- src/deciding.rt:33:26
 enum-known-r-2 : tie.Need-enum-known-r-2
 enum-known-r-2 c = search needs
 
--- src/deciding.rt:33:36
 refused-requires : tie.Need-refused-requires
 refused-requires c κs = search needs
 
--- src/deciding.rt:28:1
 returns : tie.Need-returns
 returns c = c .given .ensures ∙ ap (λ (n : ℕ). givenWith n 0) (c .before .truth .ensures) ∙ sym (ap (λ (x : Matched). matchAnswer (toldMatched x)) (c .before .before .before .r .given .1))
 
--- src/deciding.rt:28:1
 returns-2 : tie.Need-returns-2
 returns-2 c = c .refused .ensures ∙ sym (ap (λ (x : Matched). matchAnswer (toldMatched x)) (c .before .before .r2 .given .1))
 

@@ -1,4 +1,4 @@
--- `krubbadin::deciding::rank_answer` meets its contract, by the answer. Assumes nothing.
+-- `krubbadin::deciding::rank_answer` meets its contract, by the answer.
 use Rattle.krubbadin.specs.Deciding.{givenWith, rankAnswer}
 use Rattle.verdicts.specs.Verdicts.{toldRanked}
 use Rattle.verdicts.specs.declared.Ranked.{Ranked}
@@ -13,31 +13,24 @@ use Rattle.krubbadin.proofs.deciding.given.Reads as given-reads
 use Rattle.krubbadin.proofs.deciding.order_number.Reads as order-number-reads
 use Rattle.krubbadin.proofs.refused.Reads as refused-reads
 
--- src/deciding.rt:69:20
 enum-known-r : tie.Need-enum-known-r
 enum-known-r c = search needs
 
--- src/deciding.rt:69:36
 order-number-requires : tie.Need-order-number-requires
 order-number-requires c κs = search needs
 
--- src/deciding.rt:69:30
 given-requires : tie.Need-given-requires
 given-requires c κs = search needs
 
--- src/deciding.rt:70:25
 enum-known-r-2 : tie.Need-enum-known-r-2
 enum-known-r-2 c = search needs
 
--- src/deciding.rt:70:35
 refused-requires : tie.Need-refused-requires
 refused-requires c κs = search needs
 
--- src/deciding.rt:65:1
 returns : tie.Need-returns
 returns c = c .given .ensures ∙ ap (λ (n : ℕ). givenWith n 0) (c .before .order-number .ensures) ∙ sym (ap (λ (x : Ranked). rankAnswer (toldRanked x)) (c .before .before .before .r .given .1))
 
--- src/deciding.rt:65:1
 returns-2 : tie.Need-returns-2
 returns-2 c = c .refused .ensures ∙ sym (ap (λ (x : Ranked). rankAnswer (toldRanked x)) (c .before .before .r2 .given .1))
 

@@ -1,4 +1,4 @@
--- `krubbadin::single::bitmask_answer` meets its contract, by the answer. Assumes nothing.
+-- `krubbadin::single::bitmask_answer` meets its contract, by the answer.
 use Rattle.krubbadin.specs.Single.{bitmaskAnswer}
 use Rattle.operators.specs.Operators.{bitmaskTold}
 use Rattle.operators.specs.declared.BitmaskRead.{BitmaskRead}
@@ -11,27 +11,21 @@ use Rattle.krubbadin.proofs.single.bitmask_answer.Lts as lts
 use Rattle.krubbadin.proofs.single.bitmask_numbers.Reads as bitmask-numbers-reads
 use Rattle.krubbadin.proofs.single.no_operator.Reads as no-operator-reads
 
--- src/single.rt:92:31
 enum-known-r : tie.Need-enum-known-r
 enum-known-r c = search needs
 
--- src/single.rt:92:37
 bitmask-numbers-requires : tie.Need-bitmask-numbers-requires
 bitmask-numbers-requires c κs = search needs
 
--- src/single.rt:93:30
 enum-known-r-2 : tie.Need-enum-known-r-2
 enum-known-r-2 c = search needs
 
--- src/single.rt:93:40
 no-operator-requires : tie.Need-no-operator-requires
 no-operator-requires c κs = search needs
 
--- src/single.rt:88:1
 returns : tie.Need-returns
 returns c = c .bitmask-numbers .ensures ∙ sym (ap (λ (x : BitmaskRead). bitmaskAnswer (bitmaskTold x)) (c .before .before .r .given .1))
 
--- src/single.rt:88:1
 returns-2 : tie.Need-returns-2
 returns-2 c = c .no-operator .ensures ∙ sym (ap (λ (x : BitmaskRead). bitmaskAnswer (bitmaskTold x)) (c .before .before .r2 .given .1))
 

@@ -1,4 +1,4 @@
--- `krubbadin::single::is_record` meets its contract, by the kind. Assumes nothing.
+-- `krubbadin::single::is_record` meets its contract, by the kind.
 use Rattle.krubbadin.specs.Single.{isRecord}
 use borrow.Author.Tests.{eq-eqb, ne-eqb}
 use Rattle.krubbadin.proofs.single.is_record.Statement.{statement}
@@ -6,12 +6,10 @@ use Rattle.krubbadin.proofs.single.is_record.Tie as tie
 use Rattle.krubbadin.proofs.single.is_record.Reads as reads
 use Rattle.krubbadin.proofs.single.is_record.Lts as lts
 
--- src/single.rt:126:9
 returns : tie.Need-returns
 unfolding isRecord
 returns c = simp (eq-eqb _ _ (c .if1 .taken))
 
--- src/single.rt:122:1
 returns-2 : tie.Need-returns-2
 unfolding isRecord
 returns-2 c = simp (ne-eqb _ _ (c .if1 .left))

@@ -1,4 +1,4 @@
--- `krubbadin::single::krubbadin_operator_make` meets its contract, by the constructor. Assumes nothing.
+-- `krubbadin::single::krubbadin_operator_make` meets its contract, by the constructor.
 use Rattle.krubbadin.specs.Single.{numericNumbers, bitmaskNumbers, operatorMade}
 use mathlib.Core.Path.{sym, ap, _∙_}
 use borrow.Author.Tests.{ne-eqb}
@@ -15,63 +15,49 @@ use Rattle.operators.proofs.BitmaskOperator.partial_match.Reads as partial-matc
 use Rattle.operators.proofs.NumericOperator.equal_to.Reads as equal-to-reads
 use Rattle.operators.proofs.NumericOperator.greater_than_or_equal.Reads as greater-than-or-equal-reads
 
--- src/single.rt:183:30
 equal-to-requires : tie.Need-equal-to-requires
 equal-to-requires c κs = search needs
 
--- src/single.rt:183:14
 numeric-numbers-requires : tie.Need-numeric-numbers-requires
 numeric-numbers-requires c κs = search needs
 
--- src/single.rt:184:30
 greater-than-or-equal-requires : tie.Need-greater-than-or-equal-requires
 greater-than-or-equal-requires c κs = search needs
 
--- src/single.rt:184:14
 numeric-numbers-requires-2 : tie.Need-numeric-numbers-requires-2
 numeric-numbers-requires-2 c κs = search needs
 
--- src/single.rt:185:30
 exact-match-requires : tie.Need-exact-match-requires
 exact-match-requires c κs = search needs
 
--- src/single.rt:185:14
 bitmask-numbers-requires : tie.Need-bitmask-numbers-requires
 bitmask-numbers-requires c κs = search needs
 
--- src/single.rt:186:30
 partial-match-requires : tie.Need-partial-match-requires
 partial-match-requires c κs = search needs
 
--- src/single.rt:186:14
 bitmask-numbers-requires-2 : tie.Need-bitmask-numbers-requires-2
 bitmask-numbers-requires-2 c κs = search needs
 
--- src/single.rt:187:14
 no-operator-requires : tie.Need-no-operator-requires
 no-operator-requires c κs = search needs
 
--- src/single.rt:178:1
 returns : tie.Need-returns
 unfolding operatorMade
 returns c = c .numeric-numbers .ensures ∙ ap numericNumbers (c .before .equal-to .ensures) ∙ rw (c .before .before .match .keys1)
 
--- src/single.rt:178:1
 returns-2 : tie.Need-returns-2
 unfolding operatorMade
 returns-2 c = c .numeric-numbers2 .ensures ∙ ap numericNumbers (c .before .greater-than-or-equal .ensures) ∙ rw (c .before .before .match .keys2)
 
--- src/single.rt:178:1
 returns-3 : tie.Need-returns-3
 unfolding operatorMade
 returns-3 c = c .bitmask-numbers .ensures ∙ ap bitmaskNumbers (c .before .exact-match .ensures) ∙ rw (c .before .before .match .keys3)
 
--- src/single.rt:178:1
 returns-4 : tie.Need-returns-4
 unfolding operatorMade
 returns-4 c = c .bitmask-numbers2 .ensures ∙ ap bitmaskNumbers (c .before .partial-match .ensures) ∙ rw (c .before .before .match .keys4)
 
--- src/single.rt:178:1
 returns-5 : tie.Need-returns-5
 unfolding operatorMade
 returns-5 c = let m = c .before .match .rest in c .no-operator .ensures ∙ simp (ne-eqb _ _ (m .0 .0 .0 .1), ne-eqb _ _ (m .0 .0 .1), ne-eqb _ _ (m .0 .1), ne-eqb _ _ (m .1))

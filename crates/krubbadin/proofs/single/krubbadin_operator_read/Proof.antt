@@ -1,4 +1,4 @@
--- `krubbadin::single::krubbadin_operator_read` meets its contract, by the kind. Assumes nothing.
+-- `krubbadin::single::krubbadin_operator_read` meets its contract, by the kind.
 use Rattle.krubbadin.specs.Single.{numericAnswer, bitmaskAnswer, operatorRead}
 use mathlib.Core.Path.{sym, ap, _∙_}
 use borrow.Author.Tests.{eq-eqb, ne-eqb}
@@ -12,28 +12,22 @@ use Rattle.krubbadin.proofs.single.numeric_answer.Reads as numeric-answ
 use Rattle.operators.proofs.BitmaskOperator.from_byte_and_value.Reads as BitmaskOperator-from-byte-and-value-reads
 use Rattle.operators.proofs.NumericOperator.from_byte_and_value.Reads as NumericOperator-from-byte-and-value-reads
 
--- src/single.rt:103:31
 from-byte-and-value-requires : tie.Need-from-byte-and-value-requires
 from-byte-and-value-requires c κs = search needs
 
--- src/single.rt:103:9
 numeric-answer-requires : tie.Need-numeric-answer-requires
 numeric-answer-requires c κs = search needs
 
--- src/single.rt:103:9
 returns : tie.Need-returns
 unfolding operatorRead
 returns c = c .numeric-answer .ensures ∙ ap numericAnswer (c .before .from-byte-and-value .ensures) ∙ simp (eq-eqb _ _ (c .before .before .if1 .taken))
 
--- src/single.rt:105:20
 from-byte-and-value-requires-2 : tie.Need-from-byte-and-value-requires-2
 from-byte-and-value-requires-2 c κs = search needs
 
--- src/single.rt:105:5
 bitmask-answer-requires : tie.Need-bitmask-answer-requires
 bitmask-answer-requires c κs = search needs
 
--- src/single.rt:98:1
 returns-2 : tie.Need-returns-2
 unfolding operatorRead
 returns-2 c = c .bitmask-answer .ensures ∙ ap bitmaskAnswer (c .before .from-byte-and-value2 .ensures) ∙ simp (ne-eqb _ _ (c .before .before .if1 .left))

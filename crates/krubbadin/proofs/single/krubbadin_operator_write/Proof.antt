@@ -1,4 +1,4 @@
--- `krubbadin::single::krubbadin_operator_write` meets its contract, by whether the numbers are those of a record. Assumes nothing.
+-- `krubbadin::single::krubbadin_operator_write` meets its contract, by whether the numbers are those of a record.
 use Rattle.krubbadin.specs.Single.{octetAnswer, operatorWritten}
 use mathlib.Core.Path.{sym, ap, _∙_}
 use borrow.Author.Needs.{needs}
@@ -10,24 +10,19 @@ use Rattle.krubbadin.proofs.single.is_record.Reads as is-record-reads
 use Rattle.krubbadin.proofs.single.octet_answer.Reads as octet-answer-reads
 use Rattle.krubbadin.proofs.single.record_octet.Reads as record-octet-reads
 
--- src/single.rt:166:8
 is-record-requires : tie.Need-is-record-requires
 is-record-requires c κs = search needs
 
--- src/single.rt:167:29
 record-octet-requires : tie.Need-record-octet-requires
 record-octet-requires c κs = search needs
 
--- src/single.rt:167:9
 octet-answer-requires : tie.Need-octet-answer-requires
 octet-answer-requires c κs = search needs
 
--- src/single.rt:167:9
 returns : tie.Need-returns
 unfolding operatorWritten
 returns c = let t = sym (c .before .before .before .is-record .ensures) ∙ c .before .before .if1 .taken in c .octet-answer .ensures ∙ ap octetAnswer (c .before .record-octet .ensures) ∙ simp t
 
--- src/single.rt:156:1
 returns-2 : tie.Need-returns-2
 unfolding operatorWritten
 returns-2 c = let t = sym (c .before .is-record .ensures) ∙ c .if1 .left in simp t

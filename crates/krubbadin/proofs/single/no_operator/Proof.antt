@@ -1,4 +1,4 @@
--- `krubbadin::single::no_operator` meets its contract. Assumes nothing.
+-- `krubbadin::single::no_operator` meets its contract.
 use borrow.Author.Needs.{needs}
 use Rattle.krubbadin.proofs.single.no_operator.Statement.{statement}
 use Rattle.krubbadin.proofs.single.no_operator.Tie as tie
@@ -7,19 +7,15 @@ use Rattle.krubbadin.proofs.single.no_operator.Lts as lts
 use Rattle.refusals.proofs.first_carried.Reads as first-carried-reads
 use Rattle.refusals.proofs.number.Reads as number-reads
 
--- src/single.rt:41:17
 number-requires : tie.Need-number-requires
 number-requires c κs = search needs
 
--- src/single.rt:41:17
 cast-t4 : tie.Need-cast-t4
 cast-t4 c = search needs
 
--- src/single.rt:42:18
 first-carried-requires : tie.Need-first-carried-requires
 first-carried-requires c κs = search needs
 
--- src/single.rt:36:1
 returns : tie.Need-returns
 returns c = simp (c .before .number .ensures, c .first-carried .ensures)
 

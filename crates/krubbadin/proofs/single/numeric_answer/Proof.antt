@@ -1,4 +1,4 @@
--- `krubbadin::single::numeric_answer` meets its contract, by the answer. Assumes nothing.
+-- `krubbadin::single::numeric_answer` meets its contract, by the answer.
 use Rattle.krubbadin.specs.Single.{numericAnswer}
 use Rattle.operators.specs.Operators.{numericTold}
 use Rattle.operators.specs.declared.NumericRead.{NumericRead}
@@ -11,27 +11,21 @@ use Rattle.krubbadin.proofs.single.numeric_answer.Lts as lts
 use Rattle.krubbadin.proofs.single.no_operator.Reads as no-operator-reads
 use Rattle.krubbadin.proofs.single.numeric_numbers.Reads as numeric-numbers-reads
 
--- src/single.rt:83:31
 enum-known-r : tie.Need-enum-known-r
 enum-known-r c = search needs
 
--- src/single.rt:83:37
 numeric-numbers-requires : tie.Need-numeric-numbers-requires
 numeric-numbers-requires c κs = search needs
 
--- src/single.rt:84:30
 enum-known-r-2 : tie.Need-enum-known-r-2
 enum-known-r-2 c = search needs
 
--- src/single.rt:84:40
 no-operator-requires : tie.Need-no-operator-requires
 no-operator-requires c κs = search needs
 
--- src/single.rt:79:1
 returns : tie.Need-returns
 returns c = c .numeric-numbers .ensures ∙ sym (ap (λ (x : NumericRead). numericAnswer (numericTold x)) (c .before .before .r .given .1))
 
--- src/single.rt:79:1
 returns-2 : tie.Need-returns-2
 returns-2 c = c .no-operator .ensures ∙ sym (ap (λ (x : NumericRead). numericAnswer (numericTold x)) (c .before .before .r2 .given .1))
 

@@ -1,4 +1,4 @@
--- `krubbadin::single::octet_answer` meets its contract, by the answer. Assumes nothing.
+-- `krubbadin::single::octet_answer` meets its contract, by the answer.
 use Rattle.krubbadin.specs.Single.{octetAnswer}
 use Rattle.operators.specs.Operators.{octetTold}
 use Rattle.operators.specs.declared.OctetMade.{OctetMade}
@@ -10,27 +10,21 @@ use Rattle.krubbadin.proofs.single.octet_answer.Reads as reads
 use Rattle.krubbadin.proofs.single.octet_answer.Lts as lts
 use Rattle.krubbadin.proofs.refused.Reads as refused-reads
 
--- src/single.rt:112:26
 enum-known-r : tie.Need-enum-known-r
 enum-known-r c = search needs
 
--- src/single.rt:114:20
 cast-t5 : tie.Need-cast-t5
 cast-t5 c = search needs
 
--- src/single.rt:117:28
 enum-known-r-2 : tie.Need-enum-known-r-2
 enum-known-r-2 c = search needs
 
--- src/single.rt:117:38
 refused-requires : tie.Need-refused-requires
 refused-requires c κs = search needs
 
--- src/single.rt:108:1
 returns : tie.Need-returns
 returns c = sym (ap (λ (x : OctetMade). octetAnswer (octetTold x)) (c .before .r .given .1))
 
--- src/single.rt:108:1
 returns-2 : tie.Need-returns-2
 returns-2 c = c .refused .ensures ∙ sym (ap (λ (x : OctetMade). octetAnswer (octetTold x)) (c .before .before .r2 .given .1))
 

@@ -1,4 +1,4 @@
--- `krubbadin::single::record_octet` meets its contract, by the kind. Assumes nothing.
+-- `krubbadin::single::record_octet` meets its contract, by the kind.
 use Rattle.krubbadin.specs.Single.{recordOctet}
 use borrow.Author.Tests.{eq-eqb, ne-eqb}
 use native.Mathlib.Nat.{div-one}
@@ -10,20 +10,16 @@ use Rattle.krubbadin.proofs.single.record_octet.Lts as lts
 use Rattle.operators.proofs.BitmaskOperator.to_byte.Reads as BitmaskOperator-to-byte-reads
 use Rattle.operators.proofs.NumericOperator.to_byte.Reads as NumericOperator-to-byte-reads
 
--- src/single.rt:135:9
 to-byte-requires : tie.Need-to-byte-requires
 to-byte-requires c κs = search needs
 
--- src/single.rt:135:9
 returns : tie.Need-returns
 unfolding recordOctet
 returns c = simp (eq-eqb _ _ (c .before .if1 .taken), c .to-byte .ensures, div-one)
 
--- src/single.rt:145:5
 to-byte-requires-2 : tie.Need-to-byte-requires-2
 to-byte-requires-2 c κs = search needs
 
--- src/single.rt:131:1
 returns-2 : tie.Need-returns-2
 unfolding recordOctet
 returns-2 c = simp (ne-eqb _ _ (c .before .if1 .left), c .to-byte2 .ensures, div-one)

@@ -1,5 +1,5 @@
 use native.Mathlib.Nat.{div-one}
--- `BitmaskOperator::from_byte_and_value` meets its contract. Assumes nothing.
+-- `BitmaskOperator::from_byte_and_value` meets its contract.
 use Rattle.operators.proofs.Masks.{reserved, clear}
 use Rattle.operators.specs.Operators.{bitmaskFrom}
 use Rattle.octets.proofs.Widths.{width-most}
@@ -11,20 +11,16 @@ use Rattle.operators.proofs.BitmaskOperator.from_byte_and_value.Reads a
 use Rattle.operators.proofs.BitmaskOperator.from_byte_and_value.Lts as lts
 use Rattle.octets.proofs.width.Reads as width-reads
 
--- src/lib.rt:175:13
 returns : tie.Need-returns
 unfolding bitmaskFrom
 returns c = simp (reserved (c .before .args .octet) (c .if1 .taken))
 
--- src/lib.rt:182:27
 width-requires : tie.Need-width-requires
 width-requires c κs = search needs
 
--- src/lib.rt:182:27
 cast-t12 : tie.Need-cast-t12
 cast-t12 c = omega (arith, c .width .ensures, width-most (c .before .before .args .octet))
 
--- src/lib.rt:171:5
 returns-2 : tie.Need-returns-2
 unfolding bitmaskFrom
 returns-2 c = simp (clear (c .before .before .args .octet) (c .before .if1 .left), c .width .ensures, div-one)

@@ -1,4 +1,4 @@
--- `BitmaskOperator::partial_match` meets its contract. Assumes nothing.
+-- `BitmaskOperator::partial_match` meets its contract.
 use borrow.Author.Needs.{needs}
 use Rattle.operators.proofs.BitmaskOperator.partial_match.Statement.{statement}
 use Rattle.operators.proofs.BitmaskOperator.partial_match.Tie as tie
@@ -6,11 +6,9 @@ use Rattle.operators.proofs.BitmaskOperator.partial_match.Reads as read
 use Rattle.operators.proofs.BitmaskOperator.partial_match.Lts as lts
 use Rattle.operators.proofs.least_width.Reads as least-width-reads
 
--- src/lib.rt:221:27
 least-width-requires : tie.Need-least-width-requires
 least-width-requires c κs = search needs
 
--- src/lib.rt:215:5
 returns : tie.Need-returns
 returns c = simp (c .least-width .ensures)
 

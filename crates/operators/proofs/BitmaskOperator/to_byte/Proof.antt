@@ -1,4 +1,4 @@
--- `BitmaskOperator::to_byte` meets its contract. Assumes nothing.
+-- `BitmaskOperator::to_byte` meets its contract.
 use mathlib.Core.Path.{_∙_}
 use borrow.Author.Needs.{needs}
 use Rattle.operators.proofs.BitmaskOperator.to_byte.Statement.{statement}
@@ -8,23 +8,18 @@ use Rattle.operators.proofs.BitmaskOperator.to_byte.Lts as lts
 use Rattle.operators.proofs.bit.Reads as bit-reads
 use Rattle.operators.proofs.octet_of.Reads as octet-of-reads
 
--- src/lib.rt:193:19
 bit-requires : tie.Need-bit-requires
 bit-requires c κs = search needs
 
--- src/lib.rt:193:38
 bit-requires-2 : tie.Need-bit-requires-2
 bit-requires-2 c κs = search needs
 
--- src/lib.rt:193:19
 add-low : tie.Need-add-low
 add-low c = search needs
 
--- src/lib.rt:194:9
 octet-of-requires : tie.Need-octet-of-requires
 octet-of-requires c κs = search needs
 
--- src/lib.rt:190:5
 returns : tie.Need-returns
 returns c = c .octet-of .ensures ∙ simp (c .before .before .bit .ensures .0, c .before .bit2 .ensures .0)
 

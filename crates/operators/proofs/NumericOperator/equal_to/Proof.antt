@@ -1,4 +1,4 @@
--- `NumericOperator::equal_to` meets its contract. Assumes nothing.
+-- `NumericOperator::equal_to` meets its contract.
 use borrow.Author.Needs.{needs}
 use Rattle.operators.proofs.NumericOperator.equal_to.Statement.{statement}
 use Rattle.operators.proofs.NumericOperator.equal_to.Tie as tie
@@ -6,11 +6,9 @@ use Rattle.operators.proofs.NumericOperator.equal_to.Reads as reads
 use Rattle.operators.proofs.NumericOperator.equal_to.Lts as lts
 use Rattle.operators.proofs.least_width.Reads as least-width-reads
 
--- src/lib.rt:146:27
 least-width-requires : tie.Need-least-width-requires
 least-width-requires c κs = search needs
 
--- src/lib.rt:140:5
 returns : tie.Need-returns
 returns c = simp (c .least-width .ensures)
 

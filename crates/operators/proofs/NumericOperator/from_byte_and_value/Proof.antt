@@ -1,5 +1,5 @@
 use native.Mathlib.Nat.{div-one}
--- `NumericOperator::from_byte_and_value` meets its contract. Assumes nothing.
+-- `NumericOperator::from_byte_and_value` meets its contract.
 use Rattle.operators.specs.Operators.{numericFrom}
 use Rattle.octets.proofs.Widths.{width-most}
 use borrow.Author.Tests.{eq-eqb, ne-eqb}
@@ -11,20 +11,16 @@ use Rattle.operators.proofs.NumericOperator.from_byte_and_value.Reads a
 use Rattle.operators.proofs.NumericOperator.from_byte_and_value.Lts as lts
 use Rattle.octets.proofs.width.Reads as width-reads
 
--- src/lib.rt:112:13
 returns : tie.Need-returns
 unfolding numericFrom
 returns c = simp (eq-eqb _ _ (c .if1 .taken))
 
--- src/lib.rt:119:27
 width-requires : tie.Need-width-requires
 width-requires c κs = search needs
 
--- src/lib.rt:119:27
 cast-t12 : tie.Need-cast-t12
 cast-t12 c = omega (arith, c .width .ensures, width-most (c .before .before .args .octet))
 
--- src/lib.rt:108:5
 returns-2 : tie.Need-returns-2
 unfolding numericFrom
 returns-2 c = simp (ne-eqb _ _ (c .before .if1 .left), c .width .ensures, div-one)

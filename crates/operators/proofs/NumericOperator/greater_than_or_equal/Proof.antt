@@ -1,4 +1,4 @@
--- `NumericOperator::greater_than_or_equal` meets its contract. Assumes nothing.
+-- `NumericOperator::greater_than_or_equal` meets its contract.
 use borrow.Author.Needs.{needs}
 use Rattle.operators.proofs.NumericOperator.greater_than_or_equal.Statement.{statement}
 use Rattle.operators.proofs.NumericOperator.greater_than_or_equal.Tie as tie
@@ -6,11 +6,9 @@ use Rattle.operators.proofs.NumericOperator.greater_than_or_equal.Reads
 use Rattle.operators.proofs.NumericOperator.greater_than_or_equal.Lts as lts
 use Rattle.operators.proofs.least_width.Reads as least-width-reads
 
--- src/lib.rt:160:27
 least-width-requires : tie.Need-least-width-requires
 least-width-requires c κs = search needs
 
--- src/lib.rt:154:5
 returns : tie.Need-returns
 returns c = simp (c .least-width .ensures)
 

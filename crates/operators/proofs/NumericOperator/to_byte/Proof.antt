@@ -1,4 +1,4 @@
--- `NumericOperator::to_byte` meets its contract. Assumes nothing.
+-- `NumericOperator::to_byte` meets its contract.
 use mathlib.Core.Path.{_∙_}
 use borrow.Author.Needs.{needs}
 use Rattle.operators.proofs.NumericOperator.to_byte.Statement.{statement}
@@ -8,31 +8,24 @@ use Rattle.operators.proofs.NumericOperator.to_byte.Lts as lts
 use Rattle.operators.proofs.bit.Reads as bit-reads
 use Rattle.operators.proofs.octet_of.Reads as octet-of-reads
 
--- src/lib.rt:131:19
 bit-requires : tie.Need-bit-requires
 bit-requires c κs = search needs
 
--- src/lib.rt:131:44
 bit-requires-2 : tie.Need-bit-requires-2
 bit-requires-2 c κs = search needs
 
--- src/lib.rt:131:19
 add-low : tie.Need-add-low
 add-low c = search needs
 
--- src/lib.rt:131:72
 bit-requires-3 : tie.Need-bit-requires-3
 bit-requires-3 c κs = search needs
 
--- src/lib.rt:131:19
 add-low-2 : tie.Need-add-low-2
 add-low-2 c = search needs
 
--- src/lib.rt:132:9
 octet-of-requires : tie.Need-octet-of-requires
 octet-of-requires c κs = search needs
 
--- src/lib.rt:128:5
 returns : tie.Need-returns
 returns c = c .octet-of .ensures ∙ simp (c .before .before .before .bit .ensures .0, c .before .before .bit2 .ensures .0, c .before .bit3 .ensures .0)
 

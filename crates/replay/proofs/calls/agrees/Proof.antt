@@ -1,4 +1,4 @@
--- `replay::calls::agrees` is safe: the request ends where the line's sign stands. Assumes nothing.
+-- `replay::calls::agrees` is safe: the request ends where the line's sign stands.
 use lib.Seq.{length-take-le}
 use native.Mathlib.Omega.{arith}
 use mathlib.Core.Path.{sym}
@@ -11,39 +11,30 @@ use Rattle.replay.proofs.calls.answer.Reads as answer-reads
 use Rattle.replay.proofs.text.ends_in.Reads as ends-in-reads
 use Rattle.replay.proofs.text.find_sign.Reads as find-sign-reads
 
--- src/calls.rt:136:9
 find-sign-requires : tie.Need-find-sign-requires
 find-sign-requires c κs = search needs
 
--- src/calls.rt:138:9
 returns : tie.Need-returns
 returns c = search needs
 
--- src/calls.rt:141:20
 slice-aggregate-answer : tie.Need-slice-aggregate-answer
 slice-aggregate-answer c = sym (length-take-le _ _ (omega arith))
 
--- src/calls.rt:141:35
 slice-aggregate-answer-2 : tie.Need-slice-aggregate-answer-2
 slice-aggregate-answer-2 c = search needs
 
--- src/calls.rt:141:9
 answer-requires : tie.Need-answer-requires
 answer-requires c κs = search needs
 
--- src/calls.rt:142:32
 add-ends-in : tie.Need-add-ends-in
 add-ends-in c = search needs
 
--- src/calls.rt:142:42
 slice-aggregate-ends-in : tie.Need-slice-aggregate-ends-in
 slice-aggregate-ends-in c = search needs
 
--- src/calls.rt:142:5
 ends-in-requires : tie.Need-ends-in-requires
 ends-in-requires c κs = search needs
 
--- src/calls.rt:135:1
 returns-2 : tie.Need-returns-2
 returns-2 c = search needs
 

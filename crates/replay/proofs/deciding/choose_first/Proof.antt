@@ -1,4 +1,4 @@
--- `replay::deciding::choose_first` is safe: the rules are within the words. Assumes nothing.
+-- `replay::deciding::choose_first` is safe: the rules are within the words.
 use lib.Seq.{length-take-le}
 use native.Mathlib.Omega.{arith}
 use mathlib.Core.Path.{sym}
@@ -11,31 +11,24 @@ use Rattle.choosing.proofs.choose.Reads as choose-reads
 use Rattle.packets.proofs.packet_at.Reads as packet-at-reads
 use Rattle.replay.proofs.deciding.put_chosen.Reads as put-chosen-reads
 
--- src/deciding.rt:279:9
 returns : tie.Need-returns
 returns c = search needs
 
--- src/deciding.rt:283:26
 slice-aggregate-choose : tie.Need-slice-aggregate-choose
 slice-aggregate-choose c = sym (length-take-le _ _ (omega arith))
 
--- src/deciding.rt:283:57
 packet-at-requires : tie.Need-packet-at-requires
 packet-at-requires c κs = search needs
 
--- src/deciding.rt:283:9
 choose-requires : tie.Need-choose-requires
 choose-requires c κs = search needs
 
--- src/deciding.rt:281:5
 put-chosen-requires : tie.Need-put-chosen-requires
 put-chosen-requires c κs = search needs
 
--- src/deciding.rt:270:1
 same-length : tie.Need-same-length
 same-length c = search needs
 
--- src/deciding.rt:270:1
 returns-2 : tie.Need-returns-2
 returns-2 c = search needs
 

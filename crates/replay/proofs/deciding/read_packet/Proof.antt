@@ -1,4 +1,4 @@
--- `replay::deciding::read_packet` is safe and ends: the words that are left fall. Assumes nothing.
+-- `replay::deciding::read_packet` is safe and ends: the words that are left fall.
 use mathlib.Core.Path.{_≡_}
 use lib.ListN.{length}
 use Prim.Native.Nat.{_-_}
@@ -18,43 +18,33 @@ Inv-loop s from packet₀ at₀ i₀ packet at i = length packet ≡ length pack
 abbrev μ-loop : tie.MeasureT-loop
 μ-loop s from packet₀ at₀ i₀ packet at i = length packet - i
 
--- src/deciding.rt:61:5
 loop-holds : tie.Need-loop-holds Inv-loop μ-loop
 loop-holds c = omega arith
 
--- src/deciding.rt:62:26
 number-at-requires : tie.Need-number-at-requires Inv-loop μ-loop
 number-at-requires c κs = tt
 
--- src/deciding.rt:62:9
 store-requires : tie.Need-store-requires Inv-loop μ-loop
 store-requires c κs = tt
 
--- src/deciding.rt:63:22
 find-requires : tie.Need-find-requires Inv-loop μ-loop
 find-requires c κs = tt
 
--- src/deciding.rt:63:9
 past-requires : tie.Need-past-requires Inv-loop μ-loop
 past-requires c κs = tt
 
--- src/deciding.rt:64:9
 add-i : tie.Need-add-i Inv-loop μ-loop
 add-i c = omega arith
 
--- src/deciding.rt:61:5
 loop-less : tie.Need-loop-less Inv-loop μ-loop
 loop-less c = omega arith
 
--- src/deciding.rt:61:5
 loop-again : tie.Need-loop-again Inv-loop μ-loop
 loop-again c = omega arith
 
--- src/deciding.rt:58:1
 same-length : tie.Need-same-length Inv-loop μ-loop
 same-length c = omega arith
 
--- src/deciding.rt:58:1
 returns : tie.Need-returns Inv-loop μ-loop
 returns c = tt
 

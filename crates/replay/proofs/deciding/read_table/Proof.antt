@@ -1,4 +1,4 @@
--- `replay::deciding::read_table` is safe and ends: the places that are left fall. Assumes nothing.
+-- `replay::deciding::read_table` is safe and ends: the places that are left fall.
 use mathlib.Core.Path.{_≡_}
 use lib.ListN.{length}
 use Prim.Native.Nat.{_≤_, _-_}
@@ -18,99 +18,75 @@ Inv-loop line from words₀ values₀ octets₀ at₀ first₀ i₀ words values
 abbrev μ-loop : tie.MeasureT-loop
 μ-loop line from words₀ values₀ octets₀ at₀ first₀ i₀ words values octets at first i = 66 - i
 
--- src/deciding.rt:245:5
 loop-holds : tie.Need-loop-holds Inv-loop μ-loop
 loop-holds c = omega arith
 
--- src/deciding.rt:246:12
 octet-at-requires : tie.Need-octet-at-requires Inv-loop μ-loop
 octet-at-requires c κs = tt
 
--- src/deciding.rt:247:20
 mul-result : tie.Need-mul-result Inv-loop μ-loop
 mul-result c = omega arith
 
--- src/deciding.rt:247:13
 same-length : tie.Need-same-length Inv-loop μ-loop
 same-length c = omega arith
 
--- src/deciding.rt:247:13
 same-length-2 : tie.Need-same-length-2 Inv-loop μ-loop
 same-length-2 c = omega arith
 
--- src/deciding.rt:247:13
 same-length-3 : tie.Need-same-length-3 Inv-loop μ-loop
 same-length-3 c = omega arith
 
--- src/deciding.rt:247:13
 returns : tie.Need-returns Inv-loop μ-loop
 returns c = tt
 
--- src/deciding.rt:249:43
 mul-read-row : tie.Need-mul-read-row Inv-loop μ-loop
 mul-read-row c = omega arith
 
--- src/deciding.rt:249:9
 read-row-requires : tie.Need-read-row-requires Inv-loop μ-loop
 read-row-requires c κs = tt
 
--- src/deciding.rt:251:13
 same-length-4 : tie.Need-same-length-4 Inv-loop μ-loop
 same-length-4 c = omega arith
 
--- src/deciding.rt:251:13
 same-length-5 : tie.Need-same-length-5 Inv-loop μ-loop
 same-length-5 c = omega arith
 
--- src/deciding.rt:251:13
 same-length-6 : tie.Need-same-length-6 Inv-loop μ-loop
 same-length-6 c = omega arith
 
--- src/deciding.rt:251:13
 returns-2 : tie.Need-returns-2 Inv-loop μ-loop
 returns-2 c = tt
 
--- src/deciding.rt:253:36
 stop-requires : tie.Need-stop-requires Inv-loop μ-loop
 stop-requires c κs = tt
 
--- src/deciding.rt:253:25
 past-requires : tie.Need-past-requires Inv-loop μ-loop
 past-requires c κs = tt
 
--- src/deciding.rt:253:9
 past-requires-2 : tie.Need-past-requires-2 Inv-loop μ-loop
 past-requires-2 c κs = tt
 
--- src/deciding.rt:254:9
 add-i : tie.Need-add-i Inv-loop μ-loop
 add-i c = omega arith
 
--- src/deciding.rt:245:5
 loop-less : tie.Need-loop-less Inv-loop μ-loop
 loop-less c = omega arith
 
--- src/deciding.rt:245:5
 loop-again : tie.Need-loop-again Inv-loop μ-loop
 loop-again c = omega arith
 
--- src/deciding.rt:256:5
 mul-result-2 : tie.Need-mul-result-2 Inv-loop μ-loop
 mul-result-2 c = omega arith
 
--- src/deciding.rt:235:1
 same-length-7 : tie.Need-same-length-7 Inv-loop μ-loop
 same-length-7 c = omega arith
 
--- src/deciding.rt:235:1
 same-length-8 : tie.Need-same-length-8 Inv-loop μ-loop
 same-length-8 c = omega arith
 
--- src/deciding.rt:235:1
 same-length-9 : tie.Need-same-length-9 Inv-loop μ-loop
 same-length-9 c = omega arith
 
--- src/deciding.rt:235:1
 returns-3 : tie.Need-returns-3 Inv-loop μ-loop
 returns-3 c = tt
 

@@ -1,4 +1,4 @@
--- `replay::deciding::stop` is safe and ends: what is left falls. Assumes nothing.
+-- `replay::deciding::stop` is safe and ends: what is left falls.
 use lib.ListN.{length}
 use Prim.Native.Nat.{_-_}
 use native.Mathlib.Omega.{arith}
@@ -13,31 +13,24 @@ Inv-loop s from i₀ i = Unit {0}
 abbrev μ-loop : tie.MeasureT-loop
 μ-loop s from i₀ i = length s - i
 
--- src/deciding.rt:177:5
 loop-holds : tie.Need-loop-holds Inv-loop μ-loop
 loop-holds c = tt
 
--- src/deciding.rt:178:12
 shared-slice-read-if1 : tie.Need-shared-slice-read-if1 Inv-loop μ-loop
 shared-slice-read-if1 c = omega arith
 
--- src/deciding.rt:179:13
 returns : tie.Need-returns Inv-loop μ-loop
 returns c = tt
 
--- src/deciding.rt:181:9
 add-i : tie.Need-add-i Inv-loop μ-loop
 add-i c = omega arith
 
--- src/deciding.rt:177:5
 loop-less : tie.Need-loop-less Inv-loop μ-loop
 loop-less c = omega arith
 
--- src/deciding.rt:177:5
 loop-again : tie.Need-loop-again Inv-loop μ-loop
 loop-again c = tt
 
--- src/deciding.rt:175:1
 returns-2 : tie.Need-returns-2 Inv-loop μ-loop
 returns-2 c = tt
 

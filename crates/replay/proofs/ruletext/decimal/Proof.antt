@@ -1,4 +1,4 @@
--- `replay::ruletext::decimal` is safe and ends: what is left falls. Assumes nothing.
+-- `replay::ruletext::decimal` is safe and ends: what is left falls.
 use lib.ListN.{length}
 use Prim.Native.Nat.{_-_}
 use native.Mathlib.Omega.{arith}
@@ -14,47 +14,36 @@ Inv-loop s from value₀ at₀ value at = Unit {0}
 abbrev μ-loop : tie.MeasureT-loop
 μ-loop s from value₀ at₀ value at = length s - at
 
--- src/ruletext.rt:46:5
 loop-holds : tie.Need-loop-holds Inv-loop μ-loop
 loop-holds c = tt
 
--- src/ruletext.rt:47:21
 shared-slice-read-octet : tie.Need-shared-slice-read-octet Inv-loop μ-loop
 shared-slice-read-octet c = omega arith
 
--- src/ruletext.rt:49:13
 returns : tie.Need-returns Inv-loop μ-loop
 returns c = tt
 
--- src/ruletext.rt:55:13
 returns-2 : tie.Need-returns-2 Inv-loop μ-loop
 returns-2 c = tt
 
--- src/ruletext.rt:60:44
 mul-wrapping-add-u64 : tie.Need-mul-wrapping-add-u64 Inv-loop μ-loop
 mul-wrapping-add-u64 c = omega arith
 
--- src/ruletext.rt:60:78
 cast-wrapping-add-u64 : tie.Need-cast-wrapping-add-u64 Inv-loop μ-loop
 cast-wrapping-add-u64 c = omega arith
 
--- src/ruletext.rt:60:9
 wrapping-add-u64-requires : tie.Need-wrapping-add-u64-requires Inv-loop μ-loop
 wrapping-add-u64-requires c κs = tt
 
--- src/ruletext.rt:61:9
 add-at : tie.Need-add-at Inv-loop μ-loop
 add-at c = omega arith
 
--- src/ruletext.rt:46:5
 loop-less : tie.Need-loop-less Inv-loop μ-loop
 loop-less c = omega arith
 
--- src/ruletext.rt:46:5
 loop-again : tie.Need-loop-again Inv-loop μ-loop
 loop-again c = tt
 
--- src/ruletext.rt:43:1
 returns-3 : tie.Need-returns-3 Inv-loop μ-loop
 returns-3 c = tt
 

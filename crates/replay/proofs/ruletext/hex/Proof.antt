@@ -1,4 +1,4 @@
--- `replay::ruletext::hex` is safe and ends: what is left falls. Assumes nothing.
+-- `replay::ruletext::hex` is safe and ends: what is left falls.
 use Prim.Native.Nat.{_≤_, _-_}
 use native.Mathlib.Omega.{arith}
 use Rattle.replay.proofs.ruletext.hex.Statement.{statement}
@@ -13,47 +13,36 @@ Inv-loop s from digits value₀ at₀ k₀ value at k = k ≤ digits
 abbrev μ-loop : tie.MeasureT-loop
 μ-loop s from digits value₀ at₀ k₀ value at k = digits - k
 
--- src/ruletext.rt:74:5
 loop-holds : tie.Need-loop-holds Inv-loop μ-loop
 loop-holds c = omega arith
 
--- src/ruletext.rt:76:13
 returns : tie.Need-returns Inv-loop μ-loop
 returns c = tt
 
--- src/ruletext.rt:81:17
 mul-value : tie.Need-mul-value Inv-loop μ-loop
 mul-value c = omega arith
 
--- src/ruletext.rt:81:73
 shared-slice-read-digit : tie.Need-shared-slice-read-digit Inv-loop μ-loop
 shared-slice-read-digit c = omega arith
 
--- src/ruletext.rt:81:54
 digit-requires : tie.Need-digit-requires Inv-loop μ-loop
 digit-requires c κs = tt
 
--- src/ruletext.rt:81:17
 add-value : tie.Need-add-value Inv-loop μ-loop
 add-value c = omega arith
 
--- src/ruletext.rt:82:9
 add-at : tie.Need-add-at Inv-loop μ-loop
 add-at c = omega arith
 
--- src/ruletext.rt:83:9
 add-k : tie.Need-add-k Inv-loop μ-loop
 add-k c = omega arith
 
--- src/ruletext.rt:74:5
 loop-less : tie.Need-loop-less Inv-loop μ-loop
 loop-less c = omega arith
 
--- src/ruletext.rt:74:5
 loop-again : tie.Need-loop-again Inv-loop μ-loop
 loop-again c = omega arith
 
--- src/ruletext.rt:70:1
 returns-2 : tie.Need-returns-2 Inv-loop μ-loop
 returns-2 c = tt
 

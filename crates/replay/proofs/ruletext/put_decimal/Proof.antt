@@ -1,4 +1,4 @@
--- `replay::ruletext::put_decimal` is safe and ends: what is left falls. Assumes nothing.
+-- `replay::ruletext::put_decimal` is safe and ends: what is left falls.
 use mathlib.Core.Path.{_≡_}
 use lib.ListN.{length}
 use native.Mathlib.Omega.{arith}
@@ -15,51 +15,39 @@ Inv-loop out₀ at number end₀ power₀ out end power = length out ≡ length 
 abbrev μ-loop : tie.MeasureT-loop
 μ-loop out₀ at number end₀ power₀ out end power = power
 
--- src/ruletext.rt:283:5
 loop-holds : tie.Need-loop-holds Inv-loop μ-loop
 loop-holds c = omega arith
 
--- src/ruletext.rt:284:22
 div-digit : tie.Need-div-digit Inv-loop μ-loop
 div-digit c = omega arith
 
--- src/ruletext.rt:284:21
 cast-digit : tie.Need-cast-digit Inv-loop μ-loop
 cast-digit c = omega arith
 
--- src/ruletext.rt:284:21
 add-digit : tie.Need-add-digit Inv-loop μ-loop
 add-digit c = omega arith
 
--- src/ruletext.rt:285:9
 put-if-requires : tie.Need-put-if-requires Inv-loop μ-loop
 put-if-requires c κs = tt
 
--- src/ruletext.rt:283:5
 loop-less : tie.Need-loop-less Inv-loop μ-loop
 loop-less c = omega arith
 
--- src/ruletext.rt:283:5
 loop-again : tie.Need-loop-again Inv-loop μ-loop
 loop-again c = omega arith
 
--- src/ruletext.rt:288:19
 cast-put : tie.Need-cast-put Inv-loop μ-loop
 cast-put c = omega arith
 
--- src/ruletext.rt:288:19
 add-put : tie.Need-add-put Inv-loop μ-loop
 add-put c = omega arith
 
--- src/ruletext.rt:288:5
 put-requires : tie.Need-put-requires Inv-loop μ-loop
 put-requires c κs = tt
 
--- src/ruletext.rt:280:1
 same-length : tie.Need-same-length Inv-loop μ-loop
 same-length c = omega arith
 
--- src/ruletext.rt:280:1
 returns : tie.Need-returns Inv-loop μ-loop
 returns c = tt
 

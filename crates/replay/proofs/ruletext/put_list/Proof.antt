@@ -1,4 +1,4 @@
--- `replay::ruletext::put_list` is safe and ends: what is left falls. Assumes nothing.
+-- `replay::ruletext::put_list` is safe and ends: what is left falls.
 use mathlib.Core.Path.{_≡_}
 use lib.ListN.{length}
 use Prim.Native.Nat.{_-_}
@@ -20,51 +20,39 @@ Inv-loop out₀ at values octets start count end₀ i₀ out end i = length out 
 abbrev μ-loop : tie.MeasureT-loop
 μ-loop out₀ at values octets start count end₀ i₀ out end i = count - i
 
--- src/ruletext.rt:378:5
 loop-holds : tie.Need-loop-holds Inv-loop μ-loop
 loop-holds c = omega arith
 
--- src/ruletext.rt:379:9
 put-if-requires : tie.Need-put-if-requires Inv-loop μ-loop
 put-if-requires c κs = tt
 
--- src/ruletext.rt:380:21
 wrapping-add-u64-requires : tie.Need-wrapping-add-u64-requires Inv-loop μ-loop
 wrapping-add-u64-requires c κs = tt
 
--- src/ruletext.rt:381:9
 put-octet-requires : tie.Need-put-octet-requires Inv-loop μ-loop
 put-octet-requires c κs = tt
 
--- src/ruletext.rt:382:9
 put-requires : tie.Need-put-requires Inv-loop μ-loop
 put-requires c κs = tt
 
--- src/ruletext.rt:383:37
 word-at-requires : tie.Need-word-at-requires Inv-loop μ-loop
 word-at-requires c κs = tt
 
--- src/ruletext.rt:383:9
 put-decimal-requires : tie.Need-put-decimal-requires Inv-loop μ-loop
 put-decimal-requires c κs = tt
 
--- src/ruletext.rt:384:9
 add-i : tie.Need-add-i Inv-loop μ-loop
 add-i c = omega arith
 
--- src/ruletext.rt:378:5
 loop-less : tie.Need-loop-less Inv-loop μ-loop
 loop-less c = omega arith
 
--- src/ruletext.rt:378:5
 loop-again : tie.Need-loop-again Inv-loop μ-loop
 loop-again c = omega arith
 
--- src/ruletext.rt:368:1
 same-length : tie.Need-same-length Inv-loop μ-loop
 same-length c = omega arith
 
--- src/ruletext.rt:368:1
 returns : tie.Need-returns Inv-loop μ-loop
 returns c = tt
 

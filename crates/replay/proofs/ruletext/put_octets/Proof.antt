@@ -1,4 +1,4 @@
--- `replay::ruletext::put_octets` is safe and ends: what is left falls. Assumes nothing.
+-- `replay::ruletext::put_octets` is safe and ends: what is left falls.
 use mathlib.Core.Path.{_≡_}
 use lib.ListN.{length}
 use Prim.Native.Nat.{_-_}
@@ -16,43 +16,33 @@ Inv-loop out₀ at octets n end₀ i₀ out end i = length out ≡ length out₀
 abbrev μ-loop : tie.MeasureT-loop
 μ-loop out₀ at octets n end₀ i₀ out end i = n - i
 
--- src/ruletext.rt:318:9
 put-requires : tie.Need-put-requires Inv-loop μ-loop
 put-requires c κs = tt
 
--- src/ruletext.rt:318:9
 same-length : tie.Need-same-length Inv-loop μ-loop
 same-length c = omega arith
 
--- src/ruletext.rt:318:9
 returns : tie.Need-returns Inv-loop μ-loop
 returns c = tt
 
--- src/ruletext.rt:322:5
 loop-holds : tie.Need-loop-holds Inv-loop μ-loop
 loop-holds c = omega arith
 
--- src/ruletext.rt:323:9
 put-octet-requires : tie.Need-put-octet-requires Inv-loop μ-loop
 put-octet-requires c κs = tt
 
--- src/ruletext.rt:324:9
 add-i : tie.Need-add-i Inv-loop μ-loop
 add-i c = omega arith
 
--- src/ruletext.rt:322:5
 loop-less : tie.Need-loop-less Inv-loop μ-loop
 loop-less c = omega arith
 
--- src/ruletext.rt:322:5
 loop-again : tie.Need-loop-again Inv-loop μ-loop
 loop-again c = omega arith
 
--- src/ruletext.rt:316:1
 same-length-2 : tie.Need-same-length-2 Inv-loop μ-loop
 same-length-2 c = omega arith
 
--- src/ruletext.rt:316:1
 returns-2 : tie.Need-returns-2 Inv-loop μ-loop
 returns-2 c = tt
 

@@ -1,4 +1,4 @@
--- `replay::ruletext::put_rule` is safe and ends: what is left falls. Assumes nothing.
+-- `replay::ruletext::put_rule` is safe and ends: what is left falls.
 use mathlib.Core.Path.{_≡_}
 use lib.ListN.{length}
 use Prim.Native.Nat.{_-_}
@@ -18,59 +18,45 @@ Inv-loop out₀ at words values octets count end₀ group₀ out end group = len
 abbrev μ-loop : tie.MeasureT-loop
 μ-loop out₀ at words values octets count end₀ group₀ out end group = 13 - group
 
--- src/ruletext.rt:396:9
 word-at-requires : tie.Need-word-at-requires Inv-loop μ-loop
 word-at-requires c κs = tt
 
--- src/ruletext.rt:398:9
 put-requires : tie.Need-put-requires Inv-loop μ-loop
 put-requires c κs = tt
 
--- src/ruletext.rt:398:9
 same-length : tie.Need-same-length Inv-loop μ-loop
 same-length c = omega arith
 
--- src/ruletext.rt:398:9
 returns : tie.Need-returns Inv-loop μ-loop
 returns c = tt
 
--- src/ruletext.rt:402:5
 loop-holds : tie.Need-loop-holds Inv-loop μ-loop
 loop-holds c = omega arith
 
--- src/ruletext.rt:404:13
 same-length-2 : tie.Need-same-length-2 Inv-loop μ-loop
 same-length-2 c = omega arith
 
--- src/ruletext.rt:404:13
 returns-2 : tie.Need-returns-2 Inv-loop μ-loop
 returns-2 c = tt
 
--- src/ruletext.rt:406:9
 put-if-requires : tie.Need-put-if-requires Inv-loop μ-loop
 put-if-requires c κs = tt
 
--- src/ruletext.rt:407:9
 put-component-requires : tie.Need-put-component-requires Inv-loop μ-loop
 put-component-requires c κs = tt
 
--- src/ruletext.rt:408:9
 add-group : tie.Need-add-group Inv-loop μ-loop
 add-group c = omega arith
 
--- src/ruletext.rt:402:5
 loop-less : tie.Need-loop-less Inv-loop μ-loop
 loop-less c = omega arith
 
--- src/ruletext.rt:402:5
 loop-again : tie.Need-loop-again Inv-loop μ-loop
 loop-again c = omega arith
 
--- src/ruletext.rt:395:1
 same-length-3 : tie.Need-same-length-3 Inv-loop μ-loop
 same-length-3 c = omega arith
 
--- src/ruletext.rt:395:1
 returns-3 : tie.Need-returns-3 Inv-loop μ-loop
 returns-3 c = tt
 

@@ -1,4 +1,4 @@
--- `replay::ruletext::read_front` is safe: the octets are within their buffer. Assumes nothing.
+-- `replay::ruletext::read_front` is safe: the octets are within their buffer.
 use lib.Seq.{length-take-le}
 use native.Mathlib.Omega.{arith}
 use mathlib.Core.Path.{sym}
@@ -10,51 +10,39 @@ use Rattle.replay.proofs.ruletext.read_front.Lts as lts
 use Rattle.reading.proofs.read.Reads as read-reads
 use Rattle.reading.proofs.read_into.Reads as read-into-reads
 
--- src/ruletext.rt:137:9
 returns : tie.Need-returns
 returns c = search needs
 
--- src/ruletext.rt:141:9
 slice-aggregate-front : tie.Need-slice-aggregate-front
 slice-aggregate-front c = sym (length-take-le _ _ (omega arith))
 
--- src/ruletext.rt:143:9
 read-into-requires : tie.Need-read-into-requires
 read-into-requires c κs = search needs
 
--- src/ruletext.rt:143:9
 same-length : tie.Need-same-length
 same-length c = search needs
 
--- src/ruletext.rt:143:9
 same-length-2 : tie.Need-same-length-2
 same-length-2 c = search needs
 
--- src/ruletext.rt:143:9
 same-length-3 : tie.Need-same-length-3
 same-length-3 c = search needs
 
--- src/ruletext.rt:143:9
 returns-2 : tie.Need-returns-2
 returns-2 c = search needs
 
--- src/ruletext.rt:145:5
 read-requires : tie.Need-read-requires
 read-requires c κs = search needs
 
--- src/ruletext.rt:128:1
 same-length-4 : tie.Need-same-length-4
 same-length-4 c = search needs
 
--- src/ruletext.rt:128:1
 same-length-5 : tie.Need-same-length-5
 same-length-5 c = search needs
 
--- src/ruletext.rt:128:1
 same-length-6 : tie.Need-same-length-6
 same-length-6 c = search needs
 
--- src/ruletext.rt:128:1
 returns-3 : tie.Need-returns-3
 returns-3 c = search needs
 

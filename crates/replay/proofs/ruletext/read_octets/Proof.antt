@@ -1,4 +1,4 @@
--- `replay::ruletext::read_octets` is safe and ends: what is left falls. Assumes nothing.
+-- `replay::ruletext::read_octets` is safe and ends: what is left falls.
 use mathlib.Core.Path.{_≡_}
 use lib.ListN.{length}
 use native.Mathlib.Omega.{arith}
@@ -16,51 +16,39 @@ Inv-loop s from out₀ at₀ n₀ turns₀ out at n turns = length out ≡ lengt
 abbrev μ-loop : tie.MeasureT-loop
 μ-loop s from out₀ at₀ n₀ turns₀ out at n turns = turns
 
--- src/ruletext.rt:96:5
 loop-holds : tie.Need-loop-holds Inv-loop μ-loop
 loop-holds c = omega arith
 
--- src/ruletext.rt:97:13
 octet-at-requires : tie.Need-octet-at-requires Inv-loop μ-loop
 octet-at-requires c κs = tt
 
--- src/ruletext.rt:99:13
 same-length : tie.Need-same-length Inv-loop μ-loop
 same-length c = omega arith
 
--- src/ruletext.rt:99:13
 returns : tie.Need-returns Inv-loop μ-loop
 returns c = tt
 
--- src/ruletext.rt:104:13
 hex-requires : tie.Need-hex-requires Inv-loop μ-loop
 hex-requires c κs = tt
 
--- src/ruletext.rt:105:25
 cast-put : tie.Need-cast-put Inv-loop μ-loop
 cast-put c = omega arith
 
--- src/ruletext.rt:105:9
 put-requires : tie.Need-put-requires Inv-loop μ-loop
 put-requires c κs = tt
 
--- src/ruletext.rt:107:9
 sub-turns : tie.Need-sub-turns Inv-loop μ-loop
 sub-turns c = omega arith
 
--- src/ruletext.rt:96:5
 loop-less : tie.Need-loop-less Inv-loop μ-loop
 loop-less c = omega arith
 
--- src/ruletext.rt:96:5
 loop-again : tie.Need-loop-again Inv-loop μ-loop
 loop-again c = omega arith
 
--- src/ruletext.rt:92:1
 same-length-2 : tie.Need-same-length-2 Inv-loop μ-loop
 same-length-2 c = omega arith
 
--- src/ruletext.rt:92:1
 returns-2 : tie.Need-returns-2 Inv-loop μ-loop
 returns-2 c = tt
 

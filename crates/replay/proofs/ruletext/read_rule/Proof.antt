@@ -1,4 +1,4 @@
--- `replay::ruletext::read_rule` is safe and ends: what is left falls. Assumes nothing.
+-- `replay::ruletext::read_rule` is safe and ends: what is left falls.
 use mathlib.Core.Path.{_≡_}
 use lib.ListN.{length}
 use Prim.Native.Nat.{_-_}
@@ -18,75 +18,57 @@ Inv-loop s from words₀ values₀ octets₀ at₀ operators₀ group₀ words v
 abbrev μ-loop : tie.MeasureT-loop
 μ-loop s from words₀ values₀ octets₀ at₀ operators₀ group₀ words values octets at operators group = 13 - group
 
--- src/ruletext.rt:259:8
 octet-at-requires : tie.Need-octet-at-requires Inv-loop μ-loop
 octet-at-requires c κs = tt
 
--- src/ruletext.rt:260:9
 returns : tie.Need-returns Inv-loop μ-loop
 returns c = tt
 
--- src/ruletext.rt:262:5
 loop-holds : tie.Need-loop-holds Inv-loop μ-loop
 loop-holds c = omega arith
 
--- src/ruletext.rt:263:13
 read-component-requires : tie.Need-read-component-requires Inv-loop μ-loop
 read-component-requires c κs = tt
 
--- src/ruletext.rt:265:9
 add-group : tie.Need-add-group Inv-loop μ-loop
 add-group c = omega arith
 
--- src/ruletext.rt:266:9
 store-requires : tie.Need-store-requires Inv-loop μ-loop
 store-requires c κs = tt
 
--- src/ruletext.rt:267:12
 octet-at-requires-2 : tie.Need-octet-at-requires-2 Inv-loop μ-loop
 octet-at-requires-2 c κs = tt
 
--- src/ruletext.rt:268:13
 same-length : tie.Need-same-length Inv-loop μ-loop
 same-length c = omega arith
 
--- src/ruletext.rt:268:13
 same-length-2 : tie.Need-same-length-2 Inv-loop μ-loop
 same-length-2 c = omega arith
 
--- src/ruletext.rt:268:13
 same-length-3 : tie.Need-same-length-3 Inv-loop μ-loop
 same-length-3 c = omega arith
 
--- src/ruletext.rt:268:13
 returns-2 : tie.Need-returns-2 Inv-loop μ-loop
 returns-2 c = tt
 
--- src/ruletext.rt:270:9
 past-requires : tie.Need-past-requires Inv-loop μ-loop
 past-requires c κs = tt
 
--- src/ruletext.rt:262:5
 loop-less : tie.Need-loop-less Inv-loop μ-loop
 loop-less c = omega arith
 
--- src/ruletext.rt:262:5
 loop-again : tie.Need-loop-again Inv-loop μ-loop
 loop-again c = omega arith
 
--- src/ruletext.rt:255:1
 same-length-4 : tie.Need-same-length-4 Inv-loop μ-loop
 same-length-4 c = omega arith
 
--- src/ruletext.rt:255:1
 same-length-5 : tie.Need-same-length-5 Inv-loop μ-loop
 same-length-5 c = omega arith
 
--- src/ruletext.rt:255:1
 same-length-6 : tie.Need-same-length-6 Inv-loop μ-loop
 same-length-6 c = omega arith
 
--- src/ruletext.rt:255:1
 returns-3 : tie.Need-returns-3 Inv-loop μ-loop
 returns-3 c = tt
 

@@ -1,4 +1,4 @@
--- `replay::text::find_sign` is safe and ends: what is left falls. Assumes nothing.
+-- `replay::text::find_sign` is safe and ends: what is left falls.
 use lib.ListN.{length}
 use Prim.Native.Nat.{_-_}
 use native.Mathlib.Omega.{arith}
@@ -13,31 +13,24 @@ Inv-loop s blank₀ i₀ blank i = Unit {0}
 abbrev μ-loop : tie.MeasureT-loop
 μ-loop s blank₀ i₀ blank i = length s - i
 
--- src/text.rt:20:5
 loop-holds : tie.Need-loop-holds Inv-loop μ-loop
 loop-holds c = tt
 
--- src/text.rt:21:21
 shared-slice-read-octet : tie.Need-shared-slice-read-octet Inv-loop μ-loop
 shared-slice-read-octet c = omega arith
 
--- src/text.rt:24:17
 returns : tie.Need-returns Inv-loop μ-loop
 returns c = tt
 
--- src/text.rt:28:9
 add-i : tie.Need-add-i Inv-loop μ-loop
 add-i c = omega arith
 
--- src/text.rt:20:5
 loop-less : tie.Need-loop-less Inv-loop μ-loop
 loop-less c = omega arith
 
--- src/text.rt:20:5
 loop-again : tie.Need-loop-again Inv-loop μ-loop
 loop-again c = tt
 
--- src/text.rt:17:1
 returns-2 : tie.Need-returns-2 Inv-loop μ-loop
 returns-2 c = tt
 

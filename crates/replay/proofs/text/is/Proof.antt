@@ -1,4 +1,4 @@
--- `replay::text::is` is safe and ends: the octets that are left fall. Assumes nothing.
+-- `replay::text::is` is safe and ends: the octets that are left fall.
 use borrow.Author.Needs.{needs}
 use native.Mathlib.Omega.{arith}
 use lib.ListN.{length}
@@ -15,47 +15,36 @@ Inv-loop s name i₀ i = i ≤ length name
 abbrev μ-loop : tie.MeasureT-loop
 μ-loop s name i₀ i = length name - i
 
--- src/text.rt:18:8
 find-requires : tie.Need-find-requires Inv-loop μ-loop
 find-requires c κs = omega arith
 
--- src/text.rt:19:9
 returns : tie.Need-returns Inv-loop μ-loop
 returns c = tt
 
--- src/text.rt:22:5
 loop-holds : tie.Need-loop-holds Inv-loop μ-loop
 loop-holds c = omega arith
 
--- src/text.rt:24:13
 returns-2 : tie.Need-returns-2 Inv-loop μ-loop
 returns-2 c = tt
 
--- src/text.rt:26:12
 shared-slice-read-if3 : tie.Need-shared-slice-read-if3 Inv-loop μ-loop
 shared-slice-read-if3 c = omega arith
 
--- src/text.rt:26:20
 shared-slice-read-if3-2 : tie.Need-shared-slice-read-if3-2 Inv-loop μ-loop
 shared-slice-read-if3-2 c = omega arith
 
--- src/text.rt:27:13
 returns-3 : tie.Need-returns-3 Inv-loop μ-loop
 returns-3 c = tt
 
--- src/text.rt:29:9
 add-i : tie.Need-add-i Inv-loop μ-loop
 add-i c = omega arith
 
--- src/text.rt:22:5
 loop-less : tie.Need-loop-less Inv-loop μ-loop
 loop-less c = omega arith
 
--- src/text.rt:22:5
 loop-again : tie.Need-loop-again Inv-loop μ-loop
 loop-again c = omega arith
 
--- src/text.rt:17:1
 returns-4 : tie.Need-returns-4 Inv-loop μ-loop
 returns-4 c = tt
 

@@ -1,4 +1,4 @@
--- `replay::text::number_at` is safe and ends: the octets that are left fall. Assumes nothing.
+-- `replay::text::number_at` is safe and ends: the octets that are left fall.
 use borrow.Author.Needs.{needs}
 use native.Mathlib.Omega.{arith}
 use lib.ListN.{length}
@@ -15,43 +15,33 @@ Inv-loop s from v₀ i₀ v i = Unit {0}
 abbrev μ-loop : tie.MeasureT-loop
 μ-loop s from v₀ i₀ v i = length s - i
 
--- src/text.rt:55:5
 loop-holds : tie.Need-loop-holds Inv-loop μ-loop
 loop-holds c = tt
 
--- src/text.rt:56:21
 shared-slice-read-octet : tie.Need-shared-slice-read-octet Inv-loop μ-loop
 shared-slice-read-octet c = omega arith
 
--- src/text.rt:58:13
 returns : tie.Need-returns Inv-loop μ-loop
 returns c = tt
 
--- src/text.rt:60:13
 mul-v : tie.Need-mul-v Inv-loop μ-loop
 mul-v c = omega arith
 
--- src/text.rt:60:46
 digit-requires : tie.Need-digit-requires Inv-loop μ-loop
 digit-requires c κs = omega arith
 
--- src/text.rt:60:13
 add-v : tie.Need-add-v Inv-loop μ-loop
 add-v c = omega arith
 
--- src/text.rt:61:9
 add-i : tie.Need-add-i Inv-loop μ-loop
 add-i c = omega arith
 
--- src/text.rt:55:5
 loop-less : tie.Need-loop-less Inv-loop μ-loop
 loop-less c = omega arith
 
--- src/text.rt:55:5
 loop-again : tie.Need-loop-again Inv-loop μ-loop
 loop-again c = tt
 
--- src/text.rt:52:1
 returns-2 : tie.Need-returns-2 Inv-loop μ-loop
 returns-2 c = tt
 

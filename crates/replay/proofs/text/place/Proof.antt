@@ -1,4 +1,4 @@
--- `replay::text::place` is safe and ends: the fields that are left fall. Assumes nothing.
+-- `replay::text::place` is safe and ends: the fields that are left fall.
 use borrow.Author.Needs.{needs}
 use native.Mathlib.Omega.{arith}
 use lib.ListN.{length}
@@ -15,35 +15,27 @@ Inv-loop s field at₀ k₀ at k = Unit {0}
 abbrev μ-loop : tie.MeasureT-loop
 μ-loop s field at₀ k₀ at k = field - k
 
--- src/text.rt:70:5
 loop-holds : tie.Need-loop-holds Inv-loop μ-loop
 loop-holds c = tt
 
--- src/text.rt:71:13
 find-requires : tie.Need-find-requires Inv-loop μ-loop
 find-requires c κs = omega arith
 
--- src/text.rt:73:13
 returns : tie.Need-returns Inv-loop μ-loop
 returns c = tt
 
--- src/text.rt:75:14
 add-at : tie.Need-add-at Inv-loop μ-loop
 add-at c = omega arith
 
--- src/text.rt:76:9
 add-k : tie.Need-add-k Inv-loop μ-loop
 add-k c = omega arith
 
--- src/text.rt:70:5
 loop-less : tie.Need-loop-less Inv-loop μ-loop
 loop-less c = omega arith
 
--- src/text.rt:70:5
 loop-again : tie.Need-loop-again Inv-loop μ-loop
 loop-again c = tt
 
--- src/text.rt:67:1
 returns-2 : tie.Need-returns-2 Inv-loop μ-loop
 returns-2 c = tt
 

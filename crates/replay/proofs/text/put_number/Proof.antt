@@ -1,4 +1,4 @@
--- `replay::text::put_number` is safe and ends: the bits that are left fall. Assumes nothing.
+-- `replay::text::put_number` is safe and ends: the bits that are left fall.
 use borrow.Author.Needs.{needs}
 use native.Mathlib.Omega.{arith}
 use lib.ListN.{length}
@@ -17,71 +17,54 @@ Inv-loop out₀ at number end₀ left₀ out end left = (left ≤ 64) × (length
 abbrev μ-loop : tie.MeasureT-loop
 μ-loop out₀ at number end₀ left₀ out end left = left
 
--- src/text.rt:96:9
 put-requires : tie.Need-put-requires Inv-loop μ-loop
 put-requires c κs = omega arith
 
--- src/text.rt:98:5
 loop-holds : tie.Need-loop-holds Inv-loop μ-loop
 loop-holds c = omega arith
 
--- src/text.rt:99:9
 sub-left : tie.Need-sub-left Inv-loop μ-loop
 sub-left c = omega arith
 
--- src/text.rt:100:26
 cast-if1 : tie.Need-cast-if1 Inv-loop μ-loop
 cast-if1 c = omega arith
 
--- src/text.rt:100:16
 shr-if1 : tie.Need-shr-if1 Inv-loop μ-loop
 shr-if1 c = omega arith
 
--- src/text.rt:101:53
 cast-hex-digit : tie.Need-cast-hex-digit Inv-loop μ-loop
 cast-hex-digit c = omega arith
 
--- src/text.rt:101:43
 shr-hex-digit : tie.Need-shr-hex-digit Inv-loop μ-loop
 shr-hex-digit c = omega arith
 
--- src/text.rt:101:33
 hex-digit-requires : tie.Need-hex-digit-requires Inv-loop μ-loop
 hex-digit-requires c κs = omega arith
 
--- src/text.rt:101:13
 put-requires-2 : tie.Need-put-requires-2 Inv-loop μ-loop
 put-requires-2 c κs = omega arith
 
--- src/text.rt:98:5
 loop-less : tie.Need-loop-less Inv-loop μ-loop
 loop-less c = omega arith
 
--- src/text.rt:98:5
 loop-again : tie.Need-loop-again Inv-loop μ-loop
 loop-again c = omega arith
 
--- src/text.rt:98:5
 loop-less-2 : tie.Need-loop-less-2 Inv-loop μ-loop
 loop-less-2 c = omega arith
 
--- src/text.rt:98:5
 loop-again-2 : tie.Need-loop-again-2 Inv-loop μ-loop
 loop-again-2 c = omega arith
 
--- src/text.rt:104:19
 hex-digit-requires-2 : tie.Need-hex-digit-requires-2 Inv-loop μ-loop
 hex-digit-requires-2 c κs = omega arith
 
--- src/text.rt:104:5
 put-requires-3 : tie.Need-put-requires-3 Inv-loop μ-loop
 put-requires-3 c κs = omega arith
 
--- src/text.rt:95:1
 same-length : tie.Need-same-length Inv-loop μ-loop
 same-length c = omega arith
 
--- src/text.rt:95:1
 returns : tie.Need-returns Inv-loop μ-loop
 returns c = omega arith
 

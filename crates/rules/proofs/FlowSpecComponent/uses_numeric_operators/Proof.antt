@@ -1,4 +1,4 @@
--- `rules::FlowSpecComponent::uses_numeric_operators` meets its contract. By what the two callees ensure. Assumes nothing.
+-- `rules::FlowSpecComponent::uses_numeric_operators` meets its contract. By what the two callees ensure.
 use mathlib.Core.Path.{ap, _∙_}
 use borrow.Author.Needs.{needs}
 use Rattle.rules.specs.Components.{numericType}

@@ -1,42 +1,34 @@
--- `choices::cleared` meets its contract, by the kind. Assumes nothing.
-use Rattle.choices.specs.Choices.{clearedIn}
-use Rattle.choices.specs.declared.Kind.{Kind}
+-- `operators::cleared` meets its contract, by the kind.
+use Rattle.operators.specs.Ops.{clearedIn}
+use Rattle.operators.specs.declared.Kind.{Kind}
 use mathlib.Core.Path.{sym, ap}
 use borrow.Author.Needs.{needs}
-use Rattle.choices.proofs.cleared.Statement.{statement}
-use Rattle.choices.proofs.cleared.Tie as tie
-use Rattle.choices.proofs.cleared.Reads as reads
-use Rattle.choices.proofs.cleared.Lts as lts
+use Rattle.operators.proofs.cleared.Statement.{statement}
+use Rattle.operators.proofs.cleared.Tie as tie
+use Rattle.operators.proofs.cleared.Reads as reads
+use Rattle.operators.proofs.cleared.Lts as lts
 
--- src/lib.rt:73:26
 enum-told : tie.Need-enum-told
 enum-told c = search needs
 
--- src/lib.rt:73:26
 mul-result : tie.Need-mul-result
 mul-result c = search needs
 
--- src/lib.rt:73:26
 add-result : tie.Need-add-result
 add-result c = search needs
 
--- src/lib.rt:74:26
 enum-told-2 : tie.Need-enum-told-2
 enum-told-2 c = search needs
 
--- src/lib.rt:74:26
 mul-result-2 : tie.Need-mul-result-2
 mul-result-2 c = search needs
 
--- src/lib.rt:74:26
 add-result-2 : tie.Need-add-result-2
 add-result-2 c = search needs
 
--- src/lib.rt:69:1
 returns : tie.Need-returns
 returns c = sym (ap (λ (k : Kind). clearedIn k (c .before .before .args .octet)) (c .enum-told .given .1))
 
--- src/lib.rt:69:1
 returns-2 : tie.Need-returns-2
 returns-2 c = sym (ap (λ (k : Kind). clearedIn k (c .before .before .args .octet)) (c .enum-told2 .given .1))
 

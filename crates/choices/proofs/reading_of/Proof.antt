@@ -1,22 +1,19 @@
--- `reading::reading_of` meets its contract, by the two tests. Assumes nothing.
+-- `choices::reading_of` meets its contract, by the two tests.
 use borrow.Author.Tests.{eq-eqb, ne-eqb}
-use Rattle.reading.specs.Readings.{standardOf}
-use Rattle.reading.proofs.reading_of.Statement.{statement}
-use Rattle.reading.proofs.reading_of.Tie as tie
-use Rattle.reading.proofs.reading_of.Reads as reads
-use Rattle.reading.proofs.reading_of.Lts as lts
+use Rattle.choices.specs.Choices.{standardOf}
+use Rattle.choices.proofs.reading_of.Statement.{statement}
+use Rattle.choices.proofs.reading_of.Tie as tie
+use Rattle.choices.proofs.reading_of.Reads as reads
+use Rattle.choices.proofs.reading_of.Lts as lts
 
--- src/lib.rt:222:9
 returns : tie.Need-returns
 unfolding standardOf
 returns c = simp (eq-eqb _ _ (c .if1 .taken))
 
--- src/lib.rt:225:9
 returns-2 : tie.Need-returns-2
 unfolding standardOf
 returns-2 c = simp (ne-eqb _ _ (c .before .if1 .left), eq-eqb _ _ (c .if2 .taken))
 
--- src/lib.rt:218:1
 returns-3 : tie.Need-returns-3
 unfolding standardOf
 returns-3 c = simp (ne-eqb _ _ (c .before .if1 .left), ne-eqb _ _ (c .if2 .left))
