@@ -1,17 +1,17 @@
--- `writing::is_framed` meets its contract: the tests in turn.
+-- `stored::is_framed` meets its contract: the tests in turn.
 use mathlib.Core.Path.{sym, ap, _∙_}
 use mathlib.Core.Bool.{_&&_}
 use native.Mathlib.Omega.{arith}
 use borrow.Author.Tests.{le-leb, lt-leb, le-ltb, not-true, not-false}
-use Rattle.writing.specs.Frames.{framed}
+use Rattle.stored.specs.Frames.{framed}
 use Rattle.stored.specs.Stored.{zerosFrom}
-use Rattle.writing.proofs.Frames.{frame-by}
+use Rattle.stored.proofs.Frames.{frame-by}
 use borrow.Author.Needs.{needs}
-use Rattle.writing.proofs.is_framed.Statement.{statement}
-use Rattle.writing.proofs.is_framed.Tie as tie
-use Rattle.writing.proofs.is_framed.Reads as reads
-use Rattle.writing.proofs.is_framed.Lts as lts
-use Rattle.writing.proofs.all_zero.Reads as all-zero-reads
+use Rattle.stored.proofs.is_framed.Statement.{statement}
+use Rattle.stored.proofs.is_framed.Tie as tie
+use Rattle.stored.proofs.is_framed.Reads as reads
+use Rattle.stored.proofs.is_framed.Lts as lts
+use Rattle.stored.proofs.all_zero.Reads as all-zero-reads
 
 shared-slice-read-count : tie.Need-shared-slice-read-count
 shared-slice-read-count c = search needs
