@@ -1,4 +1,3 @@
+pub mod Scans
 pub mod Tests
 pub mod Words
-pub mod Inverse
-pub mod Told

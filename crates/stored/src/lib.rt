@@ -14,15 +14,8 @@ use rules::NetworkPrefix;
 // A component taken apart: its type octet, with its prefix or the places of its operators, counted from the rule's first. Eleven types of list
 // differ in nothing but the type, so that a walk has two cases and not thirteen.
 pub enum Piece {
-    Prefix {
-        tag: u8,
-        prefix: NetworkPrefix,
-    },
-    Operators {
-        tag: u8,
-        start: usize,
-        count: usize,
-    },
+    Prefix { tag: u8, prefix: NetworkPrefix },
+    Operators { tag: u8, start: usize, count: usize },
     NoRecord,
 }
 
@@ -317,11 +310,11 @@ pub fn is_framed(words: &[u64], base: usize) -> bool
     requires { ⌜ base + 64 ≤ length (now words) ⌝ }
     ensures { λ r. ⌜ r ≡ isFramed (now (words .entry)) base ⌝ }
 {
-    let count = count_at(words, base);
+    let count = words[base + 52] as usize;
     if 13 < count {
         return false;
     }
-    if 255 < family_at(words, base) {
+    if 255 < words[base + 53] {
         return false;
     }
     if !all_zero(words, base + 4 * count, base + 52) {

@@ -1,5 +1,5 @@
--- `stored::piece_at` meets its contract. `Fronts.antt` has what the words of a list are.
-use Rattle.stored.proofs.Fronts.{list-front}
+-- `stored::piece_at` meets its contract. `Words.antt` has what the words of a list are.
+use Rattle.stored.proofs.Words.{list-front}
 use borrow.Author.Needs.{needs}
 use Rattle.stored.proofs.piece_at.Statement.{statement}
 use Rattle.stored.proofs.piece_at.Tie as tie

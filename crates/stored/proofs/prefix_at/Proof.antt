@@ -1,5 +1,5 @@
--- `stored::prefix_at` meets its contract. `Fronts.antt` has what the words of an IPv4 prefix are.
-use Rattle.stored.proofs.Fronts.{ipv4-front}
+-- `stored::prefix_at` meets its contract. `Words.antt` has what the words of an IPv4 prefix are.
+use Rattle.stored.proofs.Words.{ipv4-front}
 use borrow.Author.Needs.{needs}
 use Rattle.stored.proofs.prefix_at.Statement.{statement}
 use Rattle.stored.proofs.prefix_at.Tie as tie
