@@ -1,6 +1,8 @@
-pub mod Steps
-pub mod Lists
-pub mod Runs
-pub mod Ends
+pub mod Operators
+pub mod Equations
+pub mod Chains
 pub mod Records
+pub mod Laws
+pub mod Runs
 pub mod Turns
+pub mod Once

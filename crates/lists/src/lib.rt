@@ -10,7 +10,7 @@ ghost use Rattle.ground.specs.Answers.{accepts};
 ghost use Rattle.octets.specs.Widths.{widths};
 ghost use Rattle.operators.specs.Ops.{octetOf, numberOf};
 ghost use Rattle.lists.specs.Lists.{toldList, listAt, opsAt, recordedOps, Accepted};
-ghost use Rattle.lists.specs.Runs.{Begun, Ran, Room, Filling, Filled, left, ends};
+ghost use Rattle.lists.specs.Runs.{Begun, Ran, Places, Filling, Filled, left, ends};
 use choices::Reading;
 use octets::Cursor;
 use operators::Kind;
@@ -69,11 +69,11 @@ fn measure_run(s: &[u8], at: usize, n: usize, code: u8, w: usize, bound: u8) -> 
     }
 }
 
-// The list from the cursor on: how many operators it has, and the cursor moved past it.
-pub fn measure(c: Cursor, s: &[u8], reading: Reading, kind: Kind) -> Listed
-    ensures { λ r. ⌜ toldList r ≡ listAt reading kind (now (s .entry)) (c .at) ⌝ }
+// The list from the cursor on, in a component of the type `tag`: how many operators it has, and the cursor moved past it.
+pub fn measure(c: Cursor, s: &[u8], reading: Reading, tag: u8) -> Listed
+    ensures { λ r. ⌜ toldList r ≡ listAt reading tag (now (s .entry)) (c .at) ⌝ }
 {
-    let bound = choices::limit(reading, kind);
+    let bound = choices::limit(reading, operators::kind_of(tag));
     let mut i = c.at;
     let mut n: usize = 0;
     loop {
@@ -121,7 +121,7 @@ fn fill_run(
     w: usize,
     kind: Kind,
 ) -> Tally
-    requires { ⌜ Filling kind (now s) start at n (length (now values)) (length (now octets)) ⌝ }
+    requires { ⌜ Filling (now s) start at n (length (now values)) (length (now octets)) ⌝ }
     requires { ⌜ code < 4 ⌝ }
     requires { ⌜ w ≡ getD widths code 0 ⌝ }
     ensures { λ r. ⌜ Filled kind (now (s .entry)) start (now (values .entry)) (now (octets .entry)) at n (now (values .exit)) (now (octets .exit)) (r .next .at) (r .count) ⌝ }
@@ -161,7 +161,7 @@ fn fill_width(
     code: u8,
     kind: Kind,
 ) -> Tally
-    requires { ⌜ Filling kind (now s) start at n (length (now values)) (length (now octets)) ⌝ }
+    requires { ⌜ Filling (now s) start at n (length (now values)) (length (now octets)) ⌝ }
     requires { ⌜ code < 4 ⌝ }
     ensures { λ r. ⌜ Filled kind (now (s .entry)) start (now (values .entry)) (now (octets .entry)) at n (now (values .exit)) (now (octets .exit)) (r .next .at) (r .count) ⌝ }
 {
@@ -184,11 +184,11 @@ fn fill_on(
     code: u8,
     kind: Kind,
 ) -> Tally
-    requires { ⌜ Filling kind (now s) start at n (length (now values)) (length (now octets)) ⌝ }
+    requires { ⌜ Filling (now s) start at n (length (now values)) (length (now octets)) ⌝ }
     requires { ⌜ code < 4 ⌝ }
-    ensures values { λ r. ⌜ now (values .exit) ≡ sets (now (values .entry)) (start + n) (map numberOf (left kind (now (s .entry)) at n)) ⌝ }
-    ensures octets { λ r. ⌜ now (octets .exit) ≡ sets (now (octets .entry)) (start + n) (map octetOf (left kind (now (s .entry)) at n)) ⌝ }
-    ensures end { λ r. ⌜ ends kind (now (s .entry)) at n ≡ accepts r ⌝ }
+    ensures values { λ r. ⌜ now (values .exit) ≡ sets (now (values .entry)) (start + n) (map numberOf (left kind (now (s .entry)) at)) ⌝ }
+    ensures octets { λ r. ⌜ now (octets .exit) ≡ sets (now (octets .entry)) (start + n) (map octetOf (left kind (now (s .entry)) at)) ⌝ }
+    ensures end { λ r. ⌜ r ≡ ends (now (s .entry)) at n ⌝ }
 {
     let mut i = at;
     let mut c = n;
@@ -214,23 +214,25 @@ fn fill_on(
     }
 }
 
-// The operators of the list at a place go to the lent lists from start on, as the reading records them. Answers how many there are, and
-// where the list ends. No entry point: it serves the second pass, which knows from the first that the list is accepted and has room.
+// The operators of the list at a place, in a component of the type `tag`, go to the lent lists from start on, as the reading records
+// them. Answers how many there are, and where the list ends. No entry point: it serves the second pass, which knows from the first that
+// the list is accepted and has room.
 pub fn fill(
     s: &[u8],
     at: usize,
     reading: Reading,
-    kind: Kind,
+    tag: u8,
     values: &mut [u64],
     octets: &mut [u8],
     start: usize,
 ) -> Tally
-    requires { ⌜ Accepted reading kind (now s) at ⌝ }
-    requires { ⌜ Room start (length (opsAt (now s) at)) (length (now values)) (length (now octets)) ⌝ }
-    ensures values { λ r. ⌜ now (values .exit) ≡ sets (now (values .entry)) start (map numberOf (recordedOps reading kind (opsAt (now (s .entry)) at))) ⌝ }
-    ensures octets { λ r. ⌜ now (octets .exit) ≡ sets (now (octets .entry)) start (map octetOf (recordedOps reading kind (opsAt (now (s .entry)) at))) ⌝ }
-    ensures end { λ r. ⌜ listAt reading kind (now (s .entry)) at ≡ accepts r ⌝ }
+    requires { ⌜ Accepted reading tag (now s) at ⌝ }
+    requires { ⌜ Places start (length (opsAt (now s) at)) (length (now values)) (length (now octets)) ⌝ }
+    ensures values { λ r. ⌜ now (values .exit) ≡ sets (now (values .entry)) start (map numberOf (recordedOps reading tag (opsAt (now (s .entry)) at))) ⌝ }
+    ensures octets { λ r. ⌜ now (octets .exit) ≡ sets (now (octets .entry)) start (map octetOf (recordedOps reading tag (opsAt (now (s .entry)) at))) ⌝ }
+    ensures end { λ r. ⌜ listAt reading tag (now (s .entry)) at ≡ accepts r ⌝ }
 {
+    let kind = operators::kind_of(tag);
     let octet = s[at];
     let code = octet / 16 % 4;
     let w = octets::stride(code);

@@ -5,29 +5,33 @@ use native.Mathlib.Omega.{arith}
 use borrow.Author.Needs.{needs}
 use lib.ListN.{length, length-set}
 use lib.Seq.{length-sets}
-use Rattle.lists.proofs.Turns.{whole-in, whole-by, whole-first, room-first, first-last, first-filling, first-more}
+use Rattle.lists.proofs.Turns.{whole-in, whole-first, room-first, first-last, first-filling, first-more}
 use Rattle.lists.proofs.fill.Statement.{statement}
 use Rattle.lists.proofs.fill.Tie as tie
 use Rattle.lists.proofs.fill.Reads as reads
 use Rattle.lists.proofs.fill.Lts as lts
+use Rattle.operators.proofs.kind_of.Reads as kind-of-reads
 use Rattle.operators.proofs.cleared.Reads as cleared-reads
 use Rattle.choices.proofs.first.Reads as first-reads
 use Rattle.lists.proofs.fill_on.Reads as fill-on-reads
 use Rattle.octets.proofs.read_value.Reads as read-value-reads
 use Rattle.octets.proofs.stride.Reads as stride-reads
 
+kind-of-requires : tie.Need-kind-of-requires
+kind-of-requires c κs = search needs
+
 shared-slice-read-octet : tie.Need-shared-slice-read-octet
-shared-slice-read-octet c = whole-in _ _ _ _ (whole-first _ _ _ _ (c .before .before .before .before .pre .0)) .0
+shared-slice-read-octet c = omega (arith, whole-in _ _ (whole-first _ _ _ _ (c .before .before .before .before .before .pre .0)))
 
 stride-requires : tie.Need-stride-requires
 stride-requires c κs = search needs
 
 abbrev start-of : tie.After-stride → tie.Start
-start-of c = c .before .before .before .before .before
+start-of c = c .before .before .before .before .before .before
 
 -- the first operator is whole
 here : (c : tie.After-stride) → start-of c .args .at + c .stride .result < length (start-of c .args .s .now)
-here c = whole-by _ _ _ _ (whole-first _ _ _ _ (start-of c .pre .0)) (c .stride .ensures)
+here c = omega (arith, whole-in _ _ (whole-first _ _ _ _ (start-of c .pre .0)), c .stride .ensures)
 
 add-read-value : tie.Need-add-read-value
 add-read-value c = omega (arith, here c, start-of c .good)
@@ -73,7 +77,7 @@ returns c =
     let e = v .before in
     let g = start-of e in
     let w = e .stride .ensures in
-    first-last _ _ _ _ (g .pre .0) _ (g .args .values .now) (g .args .octets .now) (g .pre .1) w (v .read-value .ensures) (f .before .cleared .ensures) (f .first .ensures) (c .if1 .taken)
+    first-last _ _ _ _ (g .pre .0) _ (g .args .values .now) (g .args .octets .now) (g .pre .1) (e .before .before .kind-of .ensures) w (v .read-value .ensures) (f .before .cleared .ensures) (f .first .ensures) (c .if1 .taken)
 
 fill-on-requires : tie.Need-fill-on-requires
 fill-on-requires c κs =
@@ -83,7 +87,7 @@ fill-on-requires c κs =
     let e = v .before in
     let g = start-of e in
     let w = e .stride .ensures in (
-      first-filling _ _ _ _ (g .pre .0) _ (g .args .values .now) (g .args .octets .now) (g .pre .1) w (v .read-value .ensures) (f .before .cleared .ensures) (f .first .ensures) (n .if1 .left),
+      first-filling _ _ _ _ (g .pre .0) _ (g .args .values .now) (g .args .octets .now) (g .pre .1) (e .before .before .kind-of .ensures) w (v .read-value .ensures) (f .before .cleared .ensures) (f .first .ensures) (n .if1 .left),
       omega arith,
     )
 
@@ -103,12 +107,13 @@ returns-2 c =
     let g = start-of e in
     let w = e .stride .ensures in
     let h = r .fill-on .ensures in
-    first-more _ _ _ _ (g .pre .0) _ (g .args .values .now) (g .args .octets .now) (g .pre .1) w (v .read-value .ensures) (f .before .cleared .ensures) (f .first .ensures) (n .if1 .left) (h .0) (h .1 .0) (h .1 .1)
+    first-more _ _ _ _ (g .pre .0) _ (g .args .values .now) (g .args .octets .now) (g .pre .1) (e .before .before .kind-of .ensures) w (v .read-value .ensures) (f .before .cleared .ensures) (f .first .ensures) (n .if1 .left) (h .0) (h .1 .0) (h .1 .1)
 
 pub fill-spec : {M : Type 1} → statement M
 fill-spec =
     tie.close
     (tie.spec
+    kind-of-requires
     shared-slice-read-octet
     stride-requires
     add-read-value

@@ -5,7 +5,7 @@ use native.Mathlib.Omega.{arith}
 use borrow.Author.Needs.{needs, scaled-fits}
 use lib.ListN.{length, length-set}
 use Rattle.lists.specs.Runs.{Filled}
-use Rattle.lists.proofs.Turns.{whole-in, whole-by, filled-first, filled-on, room, more, last}
+use Rattle.lists.proofs.Turns.{whole-in, filled-first, filled-on, room, more, last}
 use Rattle.lists.proofs.fill_on.Statement.{statement}
 use Rattle.lists.proofs.fill_on.Tie as tie
 use Rattle.lists.proofs.fill_on.Reads as reads
@@ -25,7 +25,7 @@ loop-holds : tie.Need-loop-holds Inv-loop μ-loop
 loop-holds c =
     let g = c .before .before .before in
     let f = g .pre .0 in
-    (filled-first f (omega (arith, whole-in _ _ _ _ (f .whole))), g .pre .1)
+    (filled-first f (omega (arith, whole-in _ _ (f .whole))), g .pre .1)
 
 fill-width-requires : tie.Need-fill-width-requires Inv-loop μ-loop
 fill-width-requires c κs = let l = c .before .before in (l .loop .inv .0 .filling, l .loop .inv .1)
@@ -36,7 +36,7 @@ ran : (c : tie.After-fill-width Inv-loop μ-loop) → let l = c .before .before 
 ran c = filled-on (c .before .before .before .loop .inv .0) (c .fill-width .ensures)
 
 shared-slice-read-octet : tie.Need-shared-slice-read-octet Inv-loop μ-loop
-shared-slice-read-octet c = whole-in _ _ _ _ (ran (c .before .before .before .before .before) .filling .whole) .0
+shared-slice-read-octet c = omega (arith, whole-in _ _ (ran (c .before .before .before .before .before) .filling .whole))
 
 stride-requires : tie.Need-stride-requires Inv-loop μ-loop
 stride-requires c κs = omega arith
@@ -50,7 +50,7 @@ start-of c = run-of c .before .before .before .before .before .before .before
 
 -- the operator after the run is whole
 here : (c : tie.After-stride Inv-loop μ-loop) → run-of c .fill-width .result .next .at + c .stride .result < length (start-of c .args .s .now)
-here c = whole-by _ _ _ _ (ran (run-of c) .filling .whole) (c .stride .ensures)
+here c = omega (arith, whole-in _ _ (ran (run-of c) .filling .whole), c .stride .ensures)
 
 add-p : tie.Need-add-p Inv-loop μ-loop
 add-p c = omega (arith, room (ran (run-of c)), ran (run-of c) .long-values, start-of c .good)

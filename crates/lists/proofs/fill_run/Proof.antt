@@ -7,7 +7,7 @@ use lib.ListN.{length, getD}
 use Rattle.octets.specs.Widths.{widthOf}
 use Rattle.lists.proofs.Runs.{width-by}
 use Rattle.lists.specs.Runs.{Filled}
-use Rattle.lists.proofs.Turns.{whole-in, whole-by, filled-first, room, more}
+use Rattle.lists.proofs.Turns.{whole-in, filled-first, room, more}
 use Rattle.lists.proofs.fill_run.Statement.{statement}
 use Rattle.lists.proofs.fill_run.Tie as tie
 use Rattle.lists.proofs.fill_run.Reads as reads
@@ -23,10 +23,10 @@ abbrev μ-loop : tie.MeasureT-loop
 loop-holds : tie.Need-loop-holds Inv-loop μ-loop
 loop-holds c =
     let f = c .before .before .before .pre .0 in
-    filled-first f (omega (arith, whole-in _ _ _ _ (f .whole)))
+    filled-first f (omega (arith, whole-in _ _ (f .whole)))
 
 shared-slice-read-octet : tie.Need-shared-slice-read-octet Inv-loop μ-loop
-shared-slice-read-octet c = whole-in _ _ _ _ (c .before .loop .inv .filling .whole) .0
+shared-slice-read-octet c = omega (arith, whole-in _ _ (c .before .loop .inv .filling .whole))
 
 same-length : tie.Need-same-length Inv-loop μ-loop
 same-length c = c .before .before .loop .inv .long-values
@@ -58,7 +58,7 @@ wide : (c : tie.Else2 Inv-loop μ-loop) → start-of c .args .w ≡ widthOf (get
 wide c = width-by _ (start-of c .pre .1 .1) (sym (c .if2 .left))
 
 here : (c : tie.Else2 Inv-loop μ-loop) → turn-of c .loop .i + start-of c .args .w < length (start-of c .args .s .now)
-here c = whole-by _ _ _ _ (turn-of c .loop .inv .filling .whole) (wide c)
+here c = omega (arith, whole-in _ _ (turn-of c .loop .inv .filling .whole), wide c)
 
 add-p : tie.Need-add-p Inv-loop μ-loop
 add-p c = omega (arith, room (turn-of c .loop .inv), start-of c .good)

@@ -18,7 +18,7 @@ abbrev μ-loop : tie.MeasureT-loop
 μ-loop s at n code w bound i₀ c₀ i c = length s - i
 
 loop-holds : tie.Need-loop-holds Inv-loop μ-loop
-loop-holds c = record { same = λ r k is-bound. refl; on = omega arith; place = c .pre .0 .place; within = c .pre .0 .within }
+loop-holds c = record { same = λ r t is-bound. refl; on = omega arith; place = c .pre .0 .place; within = c .pre .0 .within }
 
 add-last : tie.Need-add-last Inv-loop μ-loop
 add-last c =
