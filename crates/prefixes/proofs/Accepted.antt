@@ -1,30 +1,30 @@
--- What a reading accepted: the reading moved on within the list, the prefix is in range, and that of a standard reading is one that the
--- standard writing of its family takes. By the tests that were passed.
-use mathlib.Core.Path.{_≡_, refl, sym, ap, _∙_, subst}
+-- What a reading accepted: the plain prefix is in range, and that of a standard reading is one that the standard writing of its family takes.
+-- By the tests that were passed.
+use mathlib.Core.Path.{_≡_, refl, ap, _∙_, subst}
 use mathlib.Core.List.{List, [], _∷_}
 use mathlib.Core.Bool.{Bool, true, _&&_}
-use mathlib.Core.Logic.{_⊎_, ⊎-elim}
 use Prim.Native.Nat.{ℕ, zero, suc, _+_, _-_, _*_, _/_, _%_, _^_, _≤_, _<_}
 use native.Mathlib.Nat.{lt-of-le-of-lt, div-mul-le-self}
 use native.Mathlib.Omega.{arith}
-use borrow.Author.Tests.{eq-eqb, le-leb, ltb-false}
-use lib.Dec.{ltb, leb, eqb}
+use borrow.Author.Tests.{eq-eqb, le-leb}
+use lib.Dec.{leb, eqb}
 use lib.ListN.{length, getD, take, drop, length-drop}
 use lib.Pow.{shl-shr, pow-pos}
 use lib.Seq.{getD-drop, length-take-le}
-use Rattle.ground.proofs.Answers.{never}
 use Rattle.ground.specs.Answers.{accepts}
-use Rattle.ground.proofs.Cases.{by-test, lt-or-le}
+use Rattle.ground.proofs.Cases.{by-test}
+use Rattle.choices.specs.declared.Reading.{Reading}
+use Rattle.choices.specs.declared.Reading.the-variants.{Plain, Ipv4, Ipv6}
 use Rattle.octets.specs.Addresses.{firstBits}
 use Rattle.octets.specs.Spell.{spell, valueOf}
 use Rattle.octets.proofs.Spells.{grows}
-use Rattle.rules.specs.declared.NetworkPrefix.{NetworkPrefix}
 use Rattle.wide.specs.Numbers.{wide}
 use Rattle.wide.proofs.Halves.{num-wideOf}
-use Rattle.prefixes.specs.Prefixes.{PrefixAt, wholePrefix, octetsOf, octetsAt, boundedAt, frontAddress, offsetAddress, plainPrefix, ipv4Prefix, ipv6Prefix, plainAt, ipv4At, ipv6At, offsetFits}
+use Rattle.prefixes.specs.declared.PrefixAt.{PrefixAt}
+use Rattle.prefixes.specs.Prefixes.{octetsOf, offsetFits, fromIn, offsetIn, statedAt, frontAddress, offsetAddress, plainPrefix, ipv4Prefix, ipv6Prefix, spelledAt, prefixAt}
 use Rattle.prefixes.specs.Forms.{inRange, validIn}
 use Rattle.prefixes.proofs.Addresses.{front-lt, offset-lt, none-first}
-use Rattle.prefixes.proofs.Readings.{bounded-missing, bounded-over, bounded-octets, ipv6-missing, ipv6-no-offset, ipv6-over, ipv6-octets, fits-le}
+use Rattle.prefixes.proofs.Laws.{fits-le, Taken, taken-ranged, prefix-taken, prefix-is}
 
 -- a list of octets
 abbrev pub Octets : List ℕ → Type 0
@@ -51,68 +51,14 @@ value-lt s from k h l =
     let d : Octets (drop from s) = λ i. rw (getD-drop) (h (from + i)) in
     subst (λ (j : ℕ). valueOf (take k (drop from s)) < 2 ^ (8 * j)) e (spell-lt (take k (drop from s)) 0 0 (pow-pos 0) (octets-take k (drop from s) d))
 
--- the octets were there, and they made the prefix
-octets-taken : (s : List ℕ) (from k : ℕ) (make : ℕ → NetworkPrefix) (r : PrefixAt) → from ≤ length s → octetsAt s from k make ≡ accepts r
-    → (from + k ≤ length s) × (r ≡ wholePrefix (make (valueOf (take k (drop from s)))) (from + k))
-unfolding octetsAt
-octets-taken s from k make r l e =
-    by-test (ltb (length s - from) k)
-    (λ t. never (rw t at e))
-    (λ f. let g : k ≤ length s - from = ltb-false _ _ f in let m = rw f at e in (omega arith, cc))
+-- so do those of a prefix that was accepted
+pub taken-value : (r : Reading) (s : List ℕ) (at : ℕ) → Octets s → Taken r s at
+    → spelledAt s (statedAt r s at) < 2 ^ (8 * octetsOf (getD s at 0 - offsetIn r s at))
+taken-value r s at o t = value-lt s (fromIn r at) (octetsOf (getD s at 0 - offsetIn r s at)) o (t .within)
 
--- and so were the octets before them
-abbrev BoundedTaken : ℕ → (ℕ → ℕ → NetworkPrefix) → List ℕ → ℕ → PrefixAt → Type 0
-BoundedTaken most make s at r =
-    (getD s at 0 ≤ most) × (at + 1 + octetsOf (getD s at 0) ≤ length s)
-    × (r ≡ wholePrefix (make (getD s at 0) (valueOf (take (octetsOf (getD s at 0)) (drop (at + 1) s)))) (at + 1 + octetsOf (getD s at 0)))
-
-bounded-taken : (most : ℕ) (make : ℕ → ℕ → NetworkPrefix) (s : List ℕ) (at : ℕ) (r : PrefixAt) → boundedAt most make s at ≡ accepts r → BoundedTaken most make s at r
-bounded-taken most make s at r e =
-    ⊎-elim
-    (λ h. ⊎-elim
-    (λ k. never (bounded-over most make s at h k ∙ e))
-    (λ k. let t = octets-taken s (at + 1) (octetsOf (getD s at 0)) (make (getD s at 0)) r (omega arith) (sym (bounded-octets most make s at h k) ∙ e) in (k, t .0, t .1))
-    (lt-or-le most (getD s at 0)))
-    (λ h. never (bounded-missing most make s at h ∙ e))
-    (lt-or-le at (length s))
-
--- where each reading went on
-module _ (s : List ℕ) (at : ℕ) (r : PrefixAt) where
-  plain-taken : plainAt s at ≡ accepts r → BoundedTaken 128 plainPrefix s at r
-  unfolding plainAt
-  plain-taken e = bounded-taken 128 plainPrefix s at r e
-
-  ipv4-taken : ipv4At s at ≡ accepts r → BoundedTaken 32 ipv4Prefix s at r
-  unfolding ipv4At
-  ipv4-taken e = bounded-taken 32 ipv4Prefix s at r e
-
-  ipv6-taken : ipv6At s at ≡ accepts r
-      → (offsetFits (getD s at 0) (getD s (at + 1) 0) ≡ true) × (at + 1 + 1 + octetsOf (getD s at 0 - getD s (at + 1) 0) ≤ length s)
-      × (r ≡ wholePrefix (ipv6Prefix (getD s at 0) (getD s (at + 1) 0) (valueOf (take (octetsOf (getD s at 0 - getD s (at + 1) 0)) (drop (at + 1 + 1) s)))) (at + 1 + 1 + octetsOf (getD s at 0 - getD s (at + 1) 0)))
-  ipv6-taken e =
-      let len = getD s at 0 in
-      let off = getD s (at + 1) 0 in
-      ⊎-elim
-      (λ h. ⊎-elim
-      (λ k. by-test (offsetFits len off)
-      (λ y. let t = octets-taken s (at + 1 + 1) (octetsOf (len - off)) (ipv6Prefix len off) r (omega arith) (sym (ipv6-octets s at h k y) ∙ e) in (y, t .0, t .1))
-      (λ n. never (ipv6-over s at h k n ∙ e)))
-      (λ k. never (ipv6-no-offset s at h k ∙ e))
-      (lt-or-le (at + 1) (length s)))
-      (λ h. never (ipv6-missing s at h ∙ e))
-      (lt-or-le at (length s))
-
-  moved-on : (n : ℕ) (p : NetworkPrefix) → at < n → n ≤ length s → r ≡ wholePrefix p n → (at < r .next) × (r .next ≤ length s)
-  moved-on n p h l e = let f : r .next ≡ n = ap (λ x. x .next) e in (omega arith, omega arith)
-
-  pub plain-next : plainAt s at ≡ accepts r → (at < r .next) × (r .next ≤ length s)
-  plain-next e = let t = plain-taken e in moved-on _ _ (omega arith) (t .1) (t .2)
-
-  pub ipv4-next : ipv4At s at ≡ accepts r → (at < r .next) × (r .next ≤ length s)
-  ipv4-next e = let t = ipv4-taken e in moved-on _ _ (omega arith) (t .1) (t .2)
-
-  pub ipv6-next : ipv6At s at ≡ accepts r → (at < r .next) × (r .next ≤ length s)
-  ipv6-next e = let t = ipv6-taken e in moved-on _ _ (omega arith) (t .1) (t .2)
+-- where there is no offset
+pub front-value : (len v : ℕ) → v < 2 ^ (8 * octetsOf (len - 0)) → v < 2 ^ (8 * octetsOf len)
+front-value len v = let e : len - 0 ≡ len = omega arith in subst (λ (n : ℕ). v < 2 ^ (8 * octetsOf n)) e
 
 -- the plain prefix is within its address
 plain-ranged : (len v : ℕ) → len ≤ 128 → inRange (plainPrefix len v) ≡ true
@@ -143,21 +89,22 @@ ipv6-clean len off v f b =
     (ap (λ (n : ℕ). eqb (firstBits 128 off n) 0) w ∙ eq-eqb _ _ (none-first 128 off a (offset-lt len off v (q .0) (q .1) b)))
 
 -- what was accepted
-module _ (s : List ℕ) (at : ℕ) (r : PrefixAt) where
-  pub plain-in-range : plainAt s at ≡ accepts r → inRange (r .prefix) ≡ true
+module _ (s : List ℕ) (at : ℕ) {p : PrefixAt} where
+  pub plain-in-range : prefixAt Plain s at ≡ accepts p → inRange (p .prefix) ≡ true
   plain-in-range e =
-      let t = plain-taken s at r e in
-      ap (λ x. inRange (x .prefix)) (t .2) ∙ plain-ranged (getD s at 0) (valueOf (take (octetsOf (getD s at 0)) (drop (at + 1) s))) (t .0)
+      let t = prefix-taken Plain s at e in
+      ap (λ (x : PrefixAt). inRange (x .prefix)) (prefix-is Plain s at e)
+      ∙ plain-ranged (getD s at 0) (spelledAt s (statedAt Plain s at)) (taken-ranged Plain s at t .0)
 
-  pub ipv4-valid : Octets s → ipv4At s at ≡ accepts r → validIn 4 (r .prefix) ≡ true
-  ipv4-valid o e =
-      let t = ipv4-taken s at r e in
-      let k = octetsOf (getD s at 0) in
-      ap (λ x. validIn 4 (x .prefix)) (t .2) ∙ ipv4-clean (getD s at 0) (valueOf (take k (drop (at + 1) s))) (t .0) (value-lt s (at + 1) k o (t .1))
+  module _ (o : Octets s) where
+    pub ipv4-valid : prefixAt Ipv4 s at ≡ accepts p → validIn 4 (p .prefix) ≡ true
+    ipv4-valid e =
+        let t = prefix-taken Ipv4 s at e in
+        ap (λ (x : PrefixAt). validIn 4 (x .prefix)) (prefix-is Ipv4 s at e)
+        ∙ ipv4-clean (getD s at 0) (spelledAt s (statedAt Ipv4 s at)) (taken-ranged Ipv4 s at t .0) (front-value _ _ (taken-value Ipv4 s at o t))
 
-  pub ipv6-valid : Octets s → ipv6At s at ≡ accepts r → validIn 6 (r .prefix) ≡ true
-  ipv6-valid o e =
-      let t = ipv6-taken s at r e in
-      let k = octetsOf (getD s at 0 - getD s (at + 1) 0) in
-      ap (λ x. validIn 6 (x .prefix)) (t .2)
-      ∙ ipv6-clean (getD s at 0) (getD s (at + 1) 0) (valueOf (take k (drop (at + 1 + 1) s))) (t .0) (value-lt s (at + 1 + 1) k o (t .1))
+    pub ipv6-valid : prefixAt Ipv6 s at ≡ accepts p → validIn 6 (p .prefix) ≡ true
+    ipv6-valid e =
+        let t = prefix-taken Ipv6 s at e in
+        ap (λ (x : PrefixAt). validIn 6 (x .prefix)) (prefix-is Ipv6 s at e)
+        ∙ ipv6-clean (getD s at 0) (getD s (at + 1) 0) (spelledAt s (statedAt Ipv6 s at)) (t .range) (taken-value Ipv6 s at o t)

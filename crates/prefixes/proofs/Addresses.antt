@@ -1,16 +1,19 @@
 -- Addresses from the number that a prefix's octets spell: they fit, and moving the halves moves the number.
 use mathlib.Core.Path.{_≡_, sym, ap, ap₂, _∙_, subst}
+use mathlib.Core.List.{List}
 use mathlib.Core.Bool.{Bool, _&&_, and-true}
 use Prim.Native.Nat.{ℕ, _+_, _-_, _*_, _/_, _%_, _^_, _≤_, _<_}
 use native.Mathlib.Nat.{lt-of-lt-of-le, mod-eq-of-lt, div-eq-of-lt, zero-mul}
 use native.Mathlib.Omega.{arith}
 use lib.Dec.{eqb}
+use lib.ListN.{take, drop}
 use lib.Pow.{pow-mono, shr-lt, shl-lt}
 use borrow.Author.Tests.{eq-eqb}
 use Rattle.wide.specs.Numbers.{wide, num, wideOf}
 use Rattle.wide.specs.declared.Wide.{Wide}
 use Rattle.wide.proofs.Halves.{num-wideOf}
 use Rattle.octets.specs.Addresses.{firstBits}
+use Rattle.octets.specs.Spell.{valueOf}
 use Rattle.prefixes.specs.Prefixes.{octetsOf, frontAddress, offsetAddress}
 use Rattle.prefixes.specs.Forms.{clean}
 
@@ -75,3 +78,11 @@ none-before width len a b =
 -- a test of what was kept in halves
 pub kept-test : (v w : Wide) (n b : ℕ) → v ≡ wideOf (firstBits 128 n (num w)) → eqb (num v) b ≡ eqb (firstBits 128 n (num w)) b
 kept-test v w n b e = ap (λ (x : ℕ). eqb x b) (ap num e ∙ num-wideOf (firstBits 128 n (num w)))
+
+-- the number that octets spell, in halves, and its bound
+module _ (s : List ℕ) (from k K : ℕ) (e : k ≡ K) (w : Wide) (i : w ≡ wideOf (valueOf (take k (drop from s)))) where
+  pub value-is : num w ≡ valueOf (take K (drop from s))
+  value-is = ap num i ∙ num-wideOf (valueOf (take k (drop from s))) ∙ ap (λ (j : ℕ). valueOf (take j (drop from s))) e
+
+  pub value-below : valueOf (take k (drop from s)) < 2 ^ (8 * k) → num w < 2 ^ (8 * K)
+  value-below b = subst (λ (j : ℕ). num w < 2 ^ (8 * j)) e (rw (i, num-wideOf (valueOf (take k (drop from s)))) b)

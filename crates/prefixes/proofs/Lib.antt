@@ -1,3 +1,5 @@
 pub mod Accepted
 pub mod Addresses
-pub mod Readings
+pub mod Laws
+pub mod Once
+pub mod Tests

@@ -1,21 +1,44 @@
-// Prefixes: the plain reading, the two standard readings, and which prefixes each writing takes. In the Rust it is nlri.rs,
-// parse_prefix_component; the standard readings and the tests before a writing are added.
+// Prefixes: where one stands by each reading, the prefix that its octets make, and which prefixes each writing takes. In the Rust it is
+// nlri.rs, parse_prefix_component; the standard readings and the tests before a writing are added.
 //
 // A prefix's octets are read as one number, which is then moved to its place in the address. The functions with a `requires` are no
 // entry points.
 ghost use mathlib.Core.Path.{_≡_};
+ghost use mathlib.Core.Bool.{true};
 ghost use Prim.Native.Nat.{_+_, _-_, _*_, _^_, _<_, _≤_};
+ghost use lib.ListN.{length};
+ghost use Rattle.ground.specs.Answers.{accepts};
 ghost use Rattle.wide.specs.Numbers.{num, wideOf};
-ghost use Rattle.prefixes.specs.Prefixes.{octetsOf, frontAddress, offsetAddress, plainPrefix, ipv4Prefix, ipv6Prefix, offsetFits, plainAt, ipv4At, ipv6At, toldPrefix};
+ghost use Rattle.prefixes.specs.Prefixes.{octetsOf, offsetFits, extentOf, octetsAt, extentAt, toldExtent, frontAddress, plainPrefix, ipv4Prefix, ipv6Prefix, prefixFrom, prefixAt, toldPrefix, isExtent, Stands};
 ghost use Rattle.prefixes.specs.Forms.{inRange, clean, validIn};
+use choices::Reading;
 use octets::Cursor;
 use refusals::Fault;
 use refusals::FlowSpecError;
 use rules::NetworkPrefix;
 use wide::Wide;
 
+// Where a prefix stands: its length and its offset, 0 where it has none, the place of its first address octet, and the cursor after its last.
+pub struct Extent {
+    pub length: u8,
+    pub offset: u8,
+    pub from: usize,
+    pub next: Cursor,
+}
+
+pub enum ExtentRead {
+    Is(Extent),
+    Refused(Fault),
+}
+
+// A prefix, and the cursor after it.
+pub struct PrefixAt {
+    pub prefix: NetworkPrefix,
+    pub next: Cursor,
+}
+
 pub enum PrefixRead {
-    Whole { prefix: NetworkPrefix, next: Cursor },
+    Whole(PrefixAt),
     Refused(Fault),
 }
 
@@ -101,100 +124,138 @@ pub fn offset_fits(len: u8, off: u8) -> bool
     false
 }
 
-// The plain reading.
-pub fn plain_prefix(s: &[u8], c: Cursor) -> PrefixRead
-    ensures { λ r. ⌜ toldPrefix r ≡ plainAt (now (s .entry)) (c .at) ⌝ }
+// The extent of so many bits from an offset on, whose octets start at a place.
+fn span(len: u8, off: u8, from: usize) -> Extent
+    requires { ⌜ (off ≤ len) × (from + octetsOf (len - off) < 2 ^ 64) ⌝ }
+    ensures { λ r. ⌜ r ≡ extentOf len off from ⌝ }
 {
-    let at = c.at;
-    if s.len() <= at {
-        return PrefixRead::Refused(Fault {
-            error: FlowSpecError::InsufficientData,
-        });
-    }
-    let len = s[at];
-    if 128 < len {
-        return PrefixRead::Refused(Fault {
-            error: FlowSpecError::InvalidPrefix,
-        });
-    }
-    let k = octets_of(len);
-    let from = at + 1;
-    if s.len() - from < k {
-        return PrefixRead::Refused(Fault {
-            error: FlowSpecError::InsufficientData,
-        });
-    }
-    let v = octets::read_pattern(s, from, k);
-    PrefixRead::Whole {
-        prefix: plain_of(len, v),
-        next: Cursor { at: from + k },
+    Extent {
+        length: len,
+        offset: off,
+        from: from,
+        next: Cursor {
+            at: from + octets_of(len - off),
+        },
     }
 }
 
-// The standard IPv4 reading.
-pub fn ipv4_prefix(s: &[u8], c: Cursor) -> PrefixRead
-    ensures { λ r. ⌜ toldPrefix r ≡ ipv4At (now (s .entry)) (c .at) ⌝ }
+// The same where its octets are there.
+fn spanned(s: &[u8], len: u8, off: u8, from: usize) -> ExtentRead
+    requires { ⌜ (off ≤ len) × (from ≤ length (now s)) ⌝ }
+    ensures { λ r. ⌜ toldExtent r ≡ octetsAt (now (s .entry)) (extentOf len off from) ⌝ }
+{
+    if s.len() - from < octets_of(len - off) {
+        return ExtentRead::Refused(Fault {
+            error: FlowSpecError::InsufficientData,
+        });
+    }
+    ExtentRead::Is(span(len, off, from))
+}
+
+// Where the prefix at a cursor stands, as the reading has it. Every test of a prefix is made here, and no address.
+pub fn extent_at(reading: Reading, s: &[u8], c: Cursor) -> ExtentRead
+    ensures { λ r. ⌜ toldExtent r ≡ extentAt reading (now (s .entry)) (c .at) ⌝ }
 {
     let at = c.at;
     if s.len() <= at {
-        return PrefixRead::Refused(Fault {
+        return ExtentRead::Refused(Fault {
             error: FlowSpecError::InsufficientData,
         });
     }
     let len = s[at];
-    if 32 < len {
-        return PrefixRead::Refused(Fault {
-            error: FlowSpecError::InvalidPrefix,
-        });
-    }
-    let k = octets_of(len);
     let from = at + 1;
-    if s.len() - from < k {
-        return PrefixRead::Refused(Fault {
-            error: FlowSpecError::InsufficientData,
-        });
-    }
-    let v = octets::read_pattern(s, from, k);
-    PrefixRead::Whole {
-        prefix: ipv4_of(len, v),
-        next: Cursor { at: from + k },
+    match reading {
+        Reading::Plain => {
+            if 128 < len {
+                return ExtentRead::Refused(Fault {
+                    error: FlowSpecError::InvalidPrefix,
+                });
+            }
+            spanned(s, len, 0, from)
+        }
+        Reading::Ipv4 => {
+            if 32 < len {
+                return ExtentRead::Refused(Fault {
+                    error: FlowSpecError::InvalidPrefix,
+                });
+            }
+            spanned(s, len, 0, from)
+        }
+        Reading::Ipv6 => {
+            if s.len() <= from {
+                return ExtentRead::Refused(Fault {
+                    error: FlowSpecError::InsufficientData,
+                });
+            }
+            let off = s[from];
+            if !offset_fits(len, off) {
+                return ExtentRead::Refused(Fault {
+                    error: FlowSpecError::InvalidPrefix,
+                });
+            }
+            spanned(s, len, off, from + 1)
+        }
     }
 }
 
-// The standard IPv6 reading.
-pub fn ipv6_prefix(s: &[u8], c: Cursor) -> PrefixRead
-    ensures { λ r. ⌜ toldPrefix r ≡ ipv6At (now (s .entry)) (c .at) ⌝ }
+// The same extent where it is known to be one, so that nothing is tested again.
+fn extent_in(reading: Reading, s: &[u8], c: Cursor) -> Extent
+    requires { ⌜ isExtent (extentAt reading (now s) (c .at)) ≡ true ⌝ }
+    ensures { λ r. ⌜ extentAt reading (now (s .entry)) (c .at) ≡ accepts r ⌝ }
 {
     let at = c.at;
-    if s.len() <= at {
-        return PrefixRead::Refused(Fault {
-            error: FlowSpecError::InsufficientData,
-        });
-    }
     let len = s[at];
-    let second = at + 1;
-    if s.len() <= second {
-        return PrefixRead::Refused(Fault {
-            error: FlowSpecError::InsufficientData,
-        });
+    let from = at + 1;
+    match reading {
+        Reading::Plain => span(len, 0, from),
+        Reading::Ipv4 => span(len, 0, from),
+        Reading::Ipv6 => span(len, s[from], from + 1),
     }
-    let off = s[second];
-    if !offset_fits(len, off) {
-        return PrefixRead::Refused(Fault {
-            error: FlowSpecError::InvalidPrefix,
-        });
+}
+
+impl Extent {
+    // The prefix that the octets make, and the cursor after them. No entry point: the extent was found in these octets.
+    pub fn prefix(self, reading: Reading, s: &[u8]) -> PrefixAt
+        requires { ⌜ Stands reading (now s) self ⌝ }
+        ensures { λ r. ⌜ r ≡ prefixFrom reading (now (s .entry)) self ⌝ }
+    {
+        let len = self.length;
+        let off = self.offset;
+        let next = self.next;
+        let v = octets::read_pattern(s, self.from, octets_of(len - off));
+        match reading {
+            Reading::Plain => PrefixAt {
+                prefix: plain_of(len, v),
+                next: next,
+            },
+            Reading::Ipv4 => PrefixAt {
+                prefix: ipv4_of(len, v),
+                next: next,
+            },
+            Reading::Ipv6 => PrefixAt {
+                prefix: ipv6_of(len, off, v),
+                next: next,
+            },
+        }
     }
-    let k = octets_of(len - off);
-    let from = second + 1;
-    if s.len() - from < k {
-        return PrefixRead::Refused(Fault {
-            error: FlowSpecError::InsufficientData,
-        });
-    }
-    let v = octets::read_pattern(s, from, k);
-    PrefixRead::Whole {
-        prefix: ipv6_of(len, off, v),
-        next: Cursor { at: from + k },
+}
+
+// The prefix at a cursor of which the extent was accepted: the second pass over a body. No entry point.
+pub fn prefix_in(reading: Reading, s: &[u8], c: Cursor) -> PrefixAt
+    requires { ⌜ isExtent (extentAt reading (now s) (c .at)) ≡ true ⌝ }
+    ensures { λ r. ⌜ prefixAt reading (now (s .entry)) (c .at) ≡ accepts r ⌝ }
+{
+    let e = extent_in(reading, s, c);
+    e.prefix(reading, s)
+}
+
+// The prefix at a cursor, as the reading has it.
+pub fn prefix_at(reading: Reading, s: &[u8], c: Cursor) -> PrefixRead
+    ensures { λ r. ⌜ toldPrefix r ≡ prefixAt reading (now (s .entry)) (c .at) ⌝ }
+{
+    match extent_at(reading, s, c) {
+        ExtentRead::Is(e) => PrefixRead::Whole(e.prefix(reading, s)),
+        ExtentRead::Refused(fault) => PrefixRead::Refused(fault),
     }
 }
 

@@ -20,7 +20,7 @@ use Rattle.rules.specs.declared.NetworkPrefix.{NetworkPrefix}
 use Rattle.rules.specs.declared.NetworkPrefix.the-variants.{Ipv4, Ipv6, Ipv4Offset, Ipv6Offset}
 use Rattle.prefixes.specs.Prefixes.{octetsOf, offsetFits}
 use Rattle.prefixes.specs.Forms.{inRange, clean, validIn}
-use Rattle.prefixes.proofs.Readings.{fits-le}
+use Rattle.prefixes.proofs.Laws.{fits-le}
 use Rattle.prefixwriting.specs.Writings.{frontOctets, plainOctets, octetsInPlain, standardOctets, octetsInStandard, standardRange}
 
 -- as many octets as are counted

@@ -6,7 +6,7 @@ use lib.Dec.{eqb}
 use Rattle.octets.specs.Addresses.{firstBits}
 use Rattle.wide.specs.Numbers.{num}
 use Rattle.prefixes.proofs.Addresses.{kept-test}
-use Rattle.prefixes.proofs.Readings.{no-one}
+use Rattle.prefixes.proofs.Tests.{no-one}
 use borrow.Author.Needs.{needs}
 use Rattle.prefixes.proofs.clean_ipv6.Statement.{statement}
 use Rattle.prefixes.proofs.clean_ipv6.Tie as tie

@@ -2,7 +2,7 @@
 use mathlib.Core.Path.{sym, ap, _∙_}
 use borrow.Author.Tests.{eq-eqb, ne-eqb, le-leb, lt-leb}
 use Rattle.prefixes.specs.Forms.{validIn}
-use Rattle.prefixes.proofs.Readings.{yes-yes, yes-no, no-one}
+use Rattle.prefixes.proofs.Tests.{yes-yes, yes-no, no-one}
 use borrow.Author.Needs.{needs}
 use Rattle.prefixes.proofs.valid.Statement.{statement}
 use Rattle.prefixes.proofs.valid.Tie as tie
