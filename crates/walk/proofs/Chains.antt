@@ -12,7 +12,7 @@ use Rattle.ground.specs.Answers.{Answer, accepts, declines}
 use Rattle.ground.proofs.Cases.{lt-or-le}
 use Rattle.choices.specs.declared.Reading.{Reading}
 use Rattle.walk.specs.Walks.{Piece, componentAt, Body, body, joined, turn, walkFrom, walkAt}
-use Rattle.walk.proofs.Heres.{here}
+use Rattle.walk.proofs.Components.{here}
 
 -- from a place, a last type and a first operator place on: a body, and the place where it ends
 pub data Chain (r : Reading) (s : List ℕ) (stop : ℕ) : ℕ → ℕ → ℕ → Body → ℕ → Type 0 where

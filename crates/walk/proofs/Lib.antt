@@ -1,6 +1,6 @@
-pub mod Founds
-pub mod Heres
+pub mod Ways
+pub mod Components
 pub mod Turns
 pub mod Once
-pub mod Mets
+pub mod Refusals
 pub mod Chains

@@ -9,7 +9,7 @@ use lib.ListN.{length, getD, length-append}
 use Rattle.ground.specs.Answers.{Answer, accepts, refuses, declines}
 use Rattle.choices.specs.declared.Reading.{Reading}
 use Rattle.walk.specs.Walks.{Piece, componentAt, Body, body, joined, turn, walkFrom, walkAt, sight, seen, counted}
-use Rattle.walk.proofs.Heres.{Here, here, Sighted, sighted, unseen}
+use Rattle.walk.proofs.Components.{Here, here, Sighted, sighted, unseen}
 
 -- what is left of a walk at a place, after j components
 unfoldable pub rest : Reading → List ℕ → ℕ → ℕ → ℕ → ℕ → ℕ → Answer Body

@@ -10,7 +10,7 @@ use Rattle.refusals.specs.Refusals.{refusal}
 use Rattle.choices.specs.declared.Reading.{Reading}
 use Rattle.choices.specs.declared.Reading.the-variants.{Plain, Ipv4, Ipv6}
 use Rattle.choices.specs.Choices.{lastType}
-use Rattle.operators.specs.Ops.{kindOf, Op}
+use Rattle.operators.specs.Ops.{Op}
 use Rattle.rules.specs.declared.FlowSpecComponent.{FlowSpecComponent}
 use Rattle.rules.specs.Components.{prefixOf, listOf}
 use Rattle.prefixes.specs.Prefixes.{PrefixAt, plainAt, ipv4At, ipv6At}
@@ -49,7 +49,7 @@ listPiece type start os (declines f) = declines f
 unfoldable pub typedAt : Reading → ℕ → List ℕ → ℕ → ℕ → Answer Piece
 typedAt reading type s at start =
     pick (leb type 2) (prefixPiece type (prefixAt reading s at))
-    (listPiece type start (recordedOps reading (kindOf type) (opsAt s at)) (listAt reading (kindOf type) s at))
+    (listPiece type start (recordedOps reading type (opsAt s at)) (listAt reading type s at))
 
 -- "Each component starts with a type octet. Checks: the type must exceed the previous one (0 at first), then it must be known (1 to 13; in
 -- the standard IPv4 reading 1 to 12)"; "any octet missing before its bound" is 1

@@ -121,25 +121,25 @@ pub fn component_at(reading: Reading, s: &[u8], c: Cursor, previous: u8) -> Foun
             error: FlowSpecError::InsufficientData,
         });
     }
-    let kind = s[at];
-    if kind <= previous {
+    let tag = s[at];
+    if tag <= previous {
         return Found::Refused(Fault {
             error: FlowSpecError::InvalidComponentOrder {
                 expected_greater_than: previous,
-                found: kind,
+                found: tag,
             },
         });
     }
-    if choices::last_type(reading) < kind {
+    if choices::last_type(reading) < tag {
         return Found::Refused(Fault {
-            error: FlowSpecError::InvalidComponentType(kind),
+            error: FlowSpecError::InvalidComponentType(tag),
         });
     }
     let body = Cursor { at: at + 1 };
-    if kind <= 2 {
+    if tag <= 2 {
         return prefix_end(reading, s, body);
     }
-    match lists::measure(body, s, reading, operators::kind_of(kind)) {
+    match lists::measure(body, s, reading, tag) {
         Listed::Done { count, next } => Found::Component {
             operators: count,
             next: next,

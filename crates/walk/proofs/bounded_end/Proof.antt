@@ -2,7 +2,7 @@
 use mathlib.Core.Path.{ap}
 use Rattle.prefixes.proofs.Readings.{bounded-missing, bounded-over, bounded-octets, octets-missing}
 use Rattle.walk.specs.Walks.{ended}
-use Rattle.walk.proofs.Founds.{octets-there}
+use Rattle.walk.proofs.Ways.{octets-there}
 use borrow.Author.Needs.{needs}
 use Rattle.walk.proofs.bounded_end.Statement.{statement}
 use Rattle.walk.proofs.bounded_end.Tie as tie

@@ -3,13 +3,12 @@ use mathlib.Core.Path.{sym, _∙_, ap}
 use native.Mathlib.Omega.{arith}
 use Rattle.lists.specs.Lists.{toldList}
 use Rattle.walk.specs.Walks.{seen}
-use Rattle.walk.proofs.Founds.{found-missing, found-order, found-type, prefix-seen, list-seen}
+use Rattle.walk.proofs.Ways.{found-missing, found-order, found-type, prefix-seen, list-seen}
 use borrow.Author.Needs.{needs}
 use Rattle.walk.proofs.component_at.Statement.{statement}
 use Rattle.walk.proofs.component_at.Tie as tie
 use Rattle.walk.proofs.component_at.Reads as reads
 use Rattle.walk.proofs.component_at.Lts as lts
-use Rattle.operators.proofs.kind_of.Reads as kind-of-reads
 use Rattle.choices.proofs.last_type.Reads as last-type-reads
 use Rattle.lists.proofs.measure.Reads as measure-reads
 use Rattle.walk.proofs.prefix_end.Reads as prefix-end-reads
@@ -17,11 +16,11 @@ use Rattle.walk.proofs.prefix_end.Reads as prefix-end-reads
 returns : tie.Need-returns
 returns c = λ start. sym (ap seen (found-missing _ _ _ _ start (c .if1 .taken)))
 
-shared-slice-read-kind : tie.Need-shared-slice-read-kind
-shared-slice-read-kind c = search needs
+shared-slice-read-tag : tie.Need-shared-slice-read-tag
+shared-slice-read-tag c = search needs
 
 returns-2 : tie.Need-returns-2
-returns-2 c = λ start. sym (ap seen (found-order _ _ _ _ start (c .before .before .if1 .left) (c .if2 .taken)))
+returns-2 c = λ start. sym (ap seen (found-order _ _ _ _ start (c .before .before .if1 .left) (omega (arith, c .if2 .taken))))
 
 last-type-requires : tie.Need-last-type-requires
 last-type-requires c κs = search needs
@@ -45,9 +44,6 @@ returns-4 c =
     let k = e .before .before in
     prefix-seen _ _ _ _ start (k .before .before .if1 .left) (k .if2 .left) (omega (arith, e .before .last-type .ensures, e .if3 .left)) (c .before .if4 .taken) (c .prefix-end .ensures)
 
-kind-of-requires : tie.Need-kind-of-requires
-kind-of-requires c κs = search needs
-
 measure-requires : tie.Need-measure-requires
 measure-requires c κs = search needs
 
@@ -61,31 +57,30 @@ returns-5 : tie.Need-returns-5
 returns-5 c =
     λ start.
     let m = c .before .before .before in
-    let e = m .before .before .before in
+    let e = m .before .before in
     let k = e .before .before in
-    list-seen _ _ _ _ start (k .before .before .if1 .left) (k .if2 .left) (omega (arith, e .before .last-type .ensures, e .if3 .left)) (m .before .before .if4 .left) (m .before .kind-of .ensures) (sym (ap toldList (c .before .count .given .1)) ∙ m .measure .ensures)
+    list-seen _ _ _ _ start (k .before .before .if1 .left) (k .if2 .left) (omega (arith, e .before .last-type .ensures, e .if3 .left)) (m .before .if4 .left) (sym (ap toldList (c .before .count .given .1)) ∙ m .measure .ensures)
 
 returns-6 : tie.Need-returns-6
 returns-6 c =
     λ start.
     let m = c .before .before .before in
-    let e = m .before .before .before in
+    let e = m .before .before in
     let k = e .before .before in
-    list-seen _ _ _ _ start (k .before .before .if1 .left) (k .if2 .left) (omega (arith, e .before .last-type .ensures, e .if3 .left)) (m .before .before .if4 .left) (m .before .kind-of .ensures) (sym (ap toldList (c .before .fault .given .1)) ∙ m .measure .ensures)
+    list-seen _ _ _ _ start (k .before .before .if1 .left) (k .if2 .left) (omega (arith, e .before .last-type .ensures, e .if3 .left)) (m .before .if4 .left) (sym (ap toldList (c .before .fault .given .1)) ∙ m .measure .ensures)
 
 pub component-at-spec : {M : Type 1} → statement M
 component-at-spec =
     tie.close
     (tie.spec
     returns
-    shared-slice-read-kind
+    shared-slice-read-tag
     returns-2
     last-type-requires
     returns-3
     add-t11
     prefix-end-requires
     returns-4
-    kind-of-requires
     measure-requires
     enum-known-count
     enum-known-fault

@@ -5,7 +5,7 @@ use lib.ListN.{getD}
 use borrow.Author.Tests.{not-true, not-false}
 use Rattle.prefixes.proofs.Readings.{ipv6-missing, ipv6-no-offset, ipv6-over, ipv6-octets, fits-le, octets-missing}
 use Rattle.walk.specs.Walks.{ended}
-use Rattle.walk.proofs.Founds.{octets-there}
+use Rattle.walk.proofs.Ways.{octets-there}
 use borrow.Author.Needs.{needs}
 use Rattle.walk.proofs.offset_end.Statement.{statement}
 use Rattle.walk.proofs.offset_end.Tie as tie

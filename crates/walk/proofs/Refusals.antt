@@ -2,11 +2,11 @@
 use Prim.Native.Nat.{ℕ, zero, suc, _+_, _-_}
 use mathlib.Core.Path.{_≡_, refl}
 use mathlib.Core.Bool.{Bool, true, false}
-use mathlib.Core.List.{List, [], _∷_}
+use mathlib.Core.List.{List, []}
 use native.Mathlib.Omega.{arith}
 use lib.Dec.{leb, ltb}
 use lib.ListN.{length, getD}
-use Rattle.ground.specs.Answers.{Answer, accepts, refuses, declines}
+use Rattle.ground.specs.Answers.{Answer, Refused, accepts, declines}
 use Rattle.ground.specs.Picks.{pick}
 use Rattle.ground.proofs.Cases.{by-test}
 use Rattle.choices.specs.declared.Reading.{Reading}
@@ -17,7 +17,8 @@ use Rattle.operators.specs.Ops.{kindOf, Op}
 use Rattle.prefixes.specs.Prefixes.{PrefixAt, octetsOf, octetsAt, boundedAt, plainPrefix, ipv4Prefix, ipv6Prefix, offsetFits, plainAt, ipv4At, ipv6At}
 use Rattle.rules.specs.declared.NetworkPrefix.{NetworkPrefix}
 use Rattle.lists.specs.declared.Tally.{Tally}
-use Rattle.lists.specs.Lists.{tally, Step, operator, missing, stepAt, turn as listTurn, listFrom, listAt, opsAt, recordedOps}
+use Rattle.lists.specs.Lists.{listAt, opsAt, recordedOps}
+use Rattle.lists.proofs.Laws.{list-refuses}
 use Rattle.walk.specs.Walks.{prefixAt, Piece, prefixPiece, listPiece, typedAt, componentAt, Body, body, joined, turn, walkFrom, walkAt}
 
 -- the refusals that a walk may meet
@@ -80,20 +81,14 @@ five Plain k x e = refl
 five Ipv4 k x e = let z : _≡_ {A = ℕ} 0 1 = cc in absurd (omega arith)
 five Ipv6 k x e = let z : _≡_ {A = ℕ} 0 1 = cc in absurd (omega arith)
 
-met-step : (r : Reading) (k : Kind) (n : ℕ) (go : ℕ → ℕ → Answer Tally) → ((a i : ℕ) → Met (walkMeets r) (go a i)) → (o : Step) → Met (walkMeets r) (listTurn r k n o go)
-met-step r k n go ih missing = one r
-met-step r k n go ih (operator x v a) =
-    either-met (walkMeets r) (refusedIn r k x) (refuses 5 (x ∷ [])) (pick (leb 128 x) (accepts (tally (n + 1) a)) (go a (n + 1))) (λ t. five r k x t)
-    (λ f. either-met (walkMeets r) (leb 128 x) (accepts (tally (n + 1) a)) (go a (n + 1)) (λ t. tt) (λ g. ih a (n + 1)))
+met-of : {A : Type 0} (m : ℕ → Bool) (a : Answer A) → ((f : Refused) → a ≡ declines f → m (f .number) ≡ true) → Met m a
+met-of m (accepts x) h = tt
+met-of m (declines f) h = h f refl
 
-met-from : (r : Reading) (k : Kind) (f : ℕ) (s : List ℕ) (at n : ℕ) → Met (walkMeets r) (listFrom r k f s at n)
-unfolding listFrom
-met-from r k zero s at n = one r
-met-from r k (suc f) s at n = met-step r k n (listFrom r k f s) (λ a i. met-from r k f s a i) (stepAt s at)
-
-met-list : (r : Reading) (k : Kind) (s : List ℕ) (at : ℕ) → Met (walkMeets r) (listAt r k s at)
-unfolding listAt
-met-list r k s at = met-from r k (length s) s at 0
+met-list : (r : Reading) (t : ℕ) (s : List ℕ) (at : ℕ) → Met (walkMeets r) (listAt r t s at)
+met-list r t s at =
+    met-of (walkMeets r) (listAt r t s at)
+    (λ f e. list-refuses r t s (λ (f : Refused). walkMeets r (f .number) ≡ true) (one r) (λ x h. five r (kindOf t) x h) at e)
 
 prefix-met : (m : ℕ → Bool) (t : ℕ) (a : Answer PrefixAt) → Met m a → Met m (prefixPiece t a)
 prefix-met m t (accepts p) h = tt
@@ -106,9 +101,9 @@ list-met m t start os (declines f) h = h
 met-typed : (r : Reading) (t : ℕ) (s : List ℕ) (at start : ℕ) → Met (walkMeets r) (typedAt r t s at start)
 unfolding typedAt
 met-typed r t s at start =
-    either-met (walkMeets r) (leb t 2) (prefixPiece t (prefixAt r s at)) (listPiece t start (recordedOps r (kindOf t) (opsAt s at)) (listAt r (kindOf t) s at))
+    either-met (walkMeets r) (leb t 2) (prefixPiece t (prefixAt r s at)) (listPiece t start (recordedOps r t (opsAt s at)) (listAt r t s at))
     (λ e. prefix-met (walkMeets r) t (prefixAt r s at) (met-prefix r s at))
-    (λ e. list-met (walkMeets r) t start (recordedOps r (kindOf t) (opsAt s at)) (listAt r (kindOf t) s at) (met-list r (kindOf t) s at))
+    (λ e. list-met (walkMeets r) t start (recordedOps r t (opsAt s at)) (listAt r t s at) (met-list r t s at))
 
 met-component : (r : Reading) (s : List ℕ) (at previous start : ℕ) → Met (walkMeets r) (componentAt r s at previous start)
 unfolding componentAt

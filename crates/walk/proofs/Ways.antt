@@ -7,15 +7,12 @@ use borrow.Author.Tests.{le-leb, lt-leb, lt-ltb, le-ltb}
 use lib.ListN.{length, getD}
 use Rattle.ground.specs.Answers.{Answer, accepts, refuses, declines}
 use Rattle.choices.specs.declared.Reading.{Reading}
-use Rattle.operators.specs.declared.Kind.{Kind}
 use Rattle.choices.specs.Choices.{lastType}
-use Rattle.operators.specs.Ops.{kindOf}
 use Rattle.rules.specs.declared.NetworkPrefix.{NetworkPrefix}
 use Rattle.prefixes.specs.Prefixes.{PrefixAt, octetsAt}
 use Rattle.lists.specs.declared.Tally.{Tally}
 use Rattle.lists.specs.Lists.{listAt, opsAt, recordedOps}
-use Rattle.lists.proofs.Ends.{list-counts}
-use Rattle.lists.proofs.Records.{recorded-length}
+use Rattle.lists.proofs.Laws.{recorded-counts}
 use Rattle.walk.specs.Walks.{prefixAt, prefixPiece, listPiece, typedAt, componentAt, Sight, sight, seen, ended}
 
 -- the octets of a prefix are there
@@ -48,7 +45,7 @@ module _ (r : Reading) (t : ℕ) (s : List ℕ) (at start : ℕ) where
   unfolding typedAt
   typed-prefix h = simp (le-leb _ _ h)
 
-  pub typed-list : 2 < t → typedAt r t s at start ≡ listPiece t start (recordedOps r (kindOf t) (opsAt s at)) (listAt r (kindOf t) s at)
+  pub typed-list : 2 < t → typedAt r t s at start ≡ listPiece t start (recordedOps r t (opsAt s at)) (listAt r t s at)
   unfolding typedAt
   typed-list h = simp (lt-leb _ _ h)
 
@@ -61,14 +58,9 @@ abbrev pub measured : Answer Tally → Answer Sight
 measured (accepts l) = accepts (sight (l .count) (l .next .at))
 measured (declines f) = declines f
 
--- as many operators are recorded of a list as it has
-pub recorded-counts : (r : Reading) (k : Kind) (s : List ℕ) (at : ℕ) {l : Tally} → listAt r k s at ≡ accepts l → length (recordedOps r k (opsAt s at)) ≡ l .count
-recorded-counts r k s at e = recorded-length r k (opsAt s at) ∙ list-counts r k s at e
-
-seen-list : (r : Reading) (k : Kind) (t : ℕ) (s : List ℕ) (at start : ℕ) (a : Answer Tally) → listAt r k s at ≡ a
-    → seen (listPiece t start (recordedOps r k (opsAt s at)) a) ≡ measured a
-seen-list r k t s at start (accepts l) e = ap (λ (n : ℕ). accepts (sight n (l .next .at))) (recorded-counts r k s at e)
-seen-list r k t s at start (declines f) e = refl
+seen-list : (r : Reading) (t : ℕ) (s : List ℕ) (at start : ℕ) (a : Answer Tally) → listAt r t s at ≡ a → seen (listPiece t start (recordedOps r t (opsAt s at)) a) ≡ measured a
+seen-list r t s at start (accepts l) e = ap (λ (n : ℕ). accepts (sight n (l .next .at))) (recorded-counts r t s at e)
+seen-list r t s at start (declines f) e = refl
 
 -- a component, seen
 module _ (r : Reading) (s : List ℕ) (at previous start : ℕ) (h : at < length s) (k : previous < getD s at 0) (l : getD s at 0 ≤ lastType r) where
@@ -76,9 +68,8 @@ module _ (r : Reading) (s : List ℕ) (at previous start : ℕ) (h : at < length
   prefix-seen m e =
       e ∙ sym (ap seen (found-typed r s at previous start h k l ∙ typed-prefix r (getD s at 0) s (at + 1) start m) ∙ seen-prefix (getD s at 0) (prefixAt r s (at + 1)))
 
-  pub list-seen : 2 < getD s at 0 → {kind : Kind} → kind ≡ kindOf (getD s at 0) → {a : Answer Tally} → a ≡ listAt r kind s (at + 1)
-      → measured a ≡ seen (componentAt r s at previous start)
-  list-seen m i e =
-      ap measured (e ∙ ap (λ (z : Kind). listAt r z s (at + 1)) i)
+  pub list-seen : 2 < getD s at 0 → {a : Answer Tally} → a ≡ listAt r (getD s at 0) s (at + 1) → measured a ≡ seen (componentAt r s at previous start)
+  list-seen m e =
+      ap measured e
       ∙ sym (ap seen (found-typed r s at previous start h k l ∙ typed-list r (getD s at 0) s (at + 1) start m)
-      ∙ seen-list r (kindOf (getD s at 0)) (getD s at 0) s (at + 1) start (listAt r (kindOf (getD s at 0)) s (at + 1)) refl)
+      ∙ seen-list r (getD s at 0) s (at + 1) start (listAt r (getD s at 0) s (at + 1)) refl)

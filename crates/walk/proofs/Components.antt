@@ -11,16 +11,14 @@ use Rattle.ground.specs.Answers.{Answer, accepts, refuses, declines}
 use Rattle.ground.proofs.Cases.{lt-or-le}
 use Rattle.choices.specs.declared.Reading.{Reading}
 use Rattle.choices.specs.declared.Reading.the-variants.{Plain, Ipv4, Ipv6}
-use Rattle.operators.specs.declared.Kind.{Kind}
 use Rattle.choices.specs.Choices.{lastType}
-use Rattle.operators.specs.Ops.{kindOf}
 use Rattle.prefixes.specs.Prefixes.{PrefixAt}
 use Rattle.prefixes.proofs.Accepted.{plain-next, ipv4-next, ipv6-next}
 use Rattle.lists.specs.declared.Tally.{Tally}
 use Rattle.lists.specs.Lists.{listAt, opsAt, recordedOps}
-use Rattle.lists.proofs.Ends.{list-ends}
+use Rattle.lists.proofs.Laws.{list-ends, recorded-counts}
 use Rattle.walk.specs.Walks.{prefixAt, prefixPiece, listPiece, typedAt, Piece, componentAt, Sight, sight, seen}
-use Rattle.walk.proofs.Founds.{found-missing, found-order, found-type, found-typed, typed-prefix, typed-list, recorded-counts}
+use Rattle.walk.proofs.Ways.{found-missing, found-order, found-type, found-typed, typed-prefix, typed-list}
 
 pub last-most : (r : Reading) → lastType r ≤ 13
 last-most Plain = omega arith
@@ -50,17 +48,17 @@ by-prefix : (r : Reading) (t : ℕ) (s : List ℕ) (at : ℕ) {q : Piece} (a : A
 by-prefix r t s at (accepts p) i e = let h = prefix-next r s at p i in ends-are s at 0 (p .next) (taken e) refl refl (omega arith) (h .1)
 by-prefix r t s at (declines f) i e = never e
 
-by-list : (r : Reading) (k : Kind) (t : ℕ) (s : List ℕ) (at start : ℕ) {q : Piece} (a : Answer Tally) → listAt r k s at ≡ a
-    → listPiece t start (recordedOps r k (opsAt s at)) a ≡ accepts q → Ends s at q
-by-list r k t s at start (accepts l) i e =
-    let h = list-ends r k s at i in
-    ends-are s at (l .count) (l .next .at) (taken e) (recorded-counts r k s at i) refl (omega arith) (h .1 .1)
-by-list r k t s at start (declines f) i e = never e
+by-list : (r : Reading) (t : ℕ) (s : List ℕ) (at start : ℕ) {q : Piece} (a : Answer Tally) → listAt r t s at ≡ a
+    → listPiece t start (recordedOps r t (opsAt s at)) a ≡ accepts q → Ends s at q
+by-list r t s at start (accepts l) i e =
+    let h = list-ends r t s at i in
+    ends-are s at (l .count) (l .next .at) (taken e) (recorded-counts r t s at i) refl (omega arith) (h .1 .1)
+by-list r t s at start (declines f) i e = never e
 
 typed-ends : (r : Reading) (t : ℕ) (s : List ℕ) (at start : ℕ) {p : Piece} → typedAt r t s at start ≡ accepts p → Ends s at p
 typed-ends r t s at start e =
     ⊎-elim
-    (λ h. by-list r (kindOf t) t s at start (listAt r (kindOf t) s at) refl (sym (typed-list r t s at start h) ∙ e))
+    (λ h. by-list r t s at start (listAt r t s at) refl (sym (typed-list r t s at start h) ∙ e))
     (λ h. by-prefix r t s at (prefixAt r s at) refl (sym (typed-prefix r t s at start h) ∙ e))
     (lt-or-le 2 t)
 
