@@ -11,15 +11,15 @@ use Rattle.ground.proofs.Answers.{never}
 use Rattle.ground.specs.Answers.{Answer, accepts, declines}
 use Rattle.ground.proofs.Cases.{lt-or-le}
 use Rattle.choices.specs.declared.Reading.{Reading}
-use Rattle.walk.specs.Walks.{Piece, componentAt, Body, body, joined, turn, walkFrom, walkAt}
+use Rattle.walk.specs.Walks.{FoundAt, componentAt, Body, body, joined, turn, walkFrom, walkAt}
 use Rattle.walk.proofs.Components.{here}
 
 -- from a place, a last type and a first operator place on: a body, and the place where it ends
 pub data Chain (r : Reading) (s : List ℕ) (stop : ℕ) : ℕ → ℕ → ℕ → Body → ℕ → Type 0 where
   none : {at previous start : ℕ} → stop ≤ at → Chain r s stop at previous start (body [] []) at
-  more : {at previous start : ℕ} {p : Piece} {b : Body} {end : ℕ} → at < stop → componentAt r s at previous start ≡ accepts p
+  more : {at previous start : ℕ} {p : FoundAt} {b : Body} {end : ℕ} → at < stop → componentAt r s at previous start ≡ accepts p
       → Chain r s stop (p .next) (getD s at 0) (start + length (p .operators)) b end
-      → Chain r s stop at previous start (body (p .component ∷ b .components) (p .operators ++ b .operators)) end
+      → Chain r s stop at previous start (body (p .piece ∷ b .pieces) (p .operators ++ b .operators)) end
 
 pub record Chained (r : Reading) (s : List ℕ) (stop at previous start : ℕ) (b : Body) : Type 0 where
   pub end : ℕ
@@ -31,7 +31,7 @@ same : {x b : Body} → accepts x ≡ accepts b → x ≡ b
 same e = cc
 
 module _ (r : Reading) (s : List ℕ) (stop : ℕ) where
-  by-rest : (at previous start : ℕ) (p : Piece) (b : Body) → at < stop → componentAt r s at previous start ≡ accepts p → (a : Answer Body)
+  by-rest : (at previous start : ℕ) (p : FoundAt) (b : Body) → at < stop → componentAt r s at previous start ≡ accepts p → (a : Answer Body)
       → ((d : Body) → a ≡ accepts d → Chained r s stop (p .next) (getD s at 0) (start + length (p .operators)) d) → joined p a ≡ accepts b
       → Chained r s stop at previous start b
   by-rest at previous start p b h q (accepts d) ih e =
@@ -40,7 +40,7 @@ module _ (r : Reading) (s : List ℕ) (stop : ℕ) where
   by-rest at previous start p b h q (declines f) ih e = never e
 
   by-found : (at previous start : ℕ) (b : Body) → at < stop → (go : ℕ → ℕ → ℕ → Answer Body)
-      → ((x t i : ℕ) (d : Body) → x ≤ length s → go x t i ≡ accepts d → Chained r s stop x t i d) → (a : Answer Piece) → componentAt r s at previous start ≡ a
+      → ((x t i : ℕ) (d : Body) → x ≤ length s → go x t i ≡ accepts d → Chained r s stop x t i d) → (a : Answer FoundAt) → componentAt r s at previous start ≡ a
       → turn (getD s at 0) start a go ≡ accepts b → Chained r s stop at previous start b
   by-found at previous start b h go ih (accepts p) q e =
       let w = here r s at previous start q in

@@ -14,12 +14,13 @@ use Rattle.choices.specs.declared.Reading.the-variants.{Plain, Ipv4, Ipv6}
 use Rattle.operators.specs.declared.Kind.{Kind}
 use Rattle.choices.specs.Choices.{lastType, refusedIn}
 use Rattle.operators.specs.Ops.{kindOf, Op}
-use Rattle.prefixes.specs.Prefixes.{PrefixAt, octetsOf, octetsAt, boundedAt, plainPrefix, ipv4Prefix, ipv6Prefix, offsetFits, plainAt, ipv4At, ipv6At}
-use Rattle.rules.specs.declared.NetworkPrefix.{NetworkPrefix}
+use Rattle.prefixes.specs.declared.PrefixAt.{PrefixAt}
+use Rattle.prefixes.specs.Prefixes.{prefixAt}
+use Rattle.prefixes.proofs.Laws.{prefix-ways}
 use Rattle.lists.specs.declared.Tally.{Tally}
 use Rattle.lists.specs.Lists.{listAt, opsAt, recordedOps}
 use Rattle.lists.proofs.Laws.{list-refuses}
-use Rattle.walk.specs.Walks.{prefixAt, Piece, prefixPiece, listPiece, typedAt, componentAt, Body, body, joined, turn, walkFrom, walkAt}
+use Rattle.walk.specs.Walks.{FoundAt, prefixFound, listFound, typedAt, componentAt, Body, body, joined, turn, walkFrom, walkAt}
 
 -- the refusals that a walk may meet
 abbrev pub walkMeets : Reading → ℕ → Bool
@@ -49,30 +50,8 @@ module _ (r : Reading) where
   four : walkMeets r 4 ≡ true
   four = early r 4 refl refl
 
-  met-octets : (s : List ℕ) (from k : ℕ) (make : ℕ → NetworkPrefix) → Met (walkMeets r) (octetsAt s from k make)
-  unfolding octetsAt
-  met-octets s from k make = by-test (ltb (length s - from) k) (λ t. rw t one) (λ f. rw f tt)
-
-  met-bounded : (most : ℕ) (make : ℕ → ℕ → NetworkPrefix) (s : List ℕ) (at : ℕ) → Met (walkMeets r) (boundedAt most make s at)
-  unfolding boundedAt
-  met-bounded most make s at =
-      by-test (leb (length s) at) (λ t. rw t one)
-      (λ f. by-test (ltb most (getD s at 0)) (λ t. rw (f, t) four) (λ g. rw (f, g) (met-octets s (at + 1) (octetsOf (getD s at 0)) (make (getD s at 0)))))
-
-  met-offset : (s : List ℕ) (at : ℕ) → Met (walkMeets r) (ipv6At s at)
-  unfolding ipv6At
-  met-offset s at =
-      let len = getD s at 0 in
-      let off = getD s (at + 1) 0 in
-      by-test (leb (length s) at) (λ t. rw t one)
-      (λ f. by-test (leb (length s) (at + 1)) (λ t. rw (f, t) one)
-      (λ g. by-test (offsetFits len off) (λ t. rw (f, g, t) (met-octets s (at + 2) (octetsOf (len - off)) (ipv6Prefix len off))) (λ h. rw (f, g, h) four)))
-
-met-prefix : (r : Reading) (s : List ℕ) (at : ℕ) → Met (walkMeets r) (prefixAt r s at)
-unfolding plainAt ipv4At
-met-prefix Plain s at = met-bounded Plain 128 plainPrefix s at
-met-prefix Ipv4 s at = met-bounded Ipv4 32 ipv4Prefix s at
-met-prefix Ipv6 s at = met-offset Ipv6 s at
+  met-prefix : (s : List ℕ) (at : ℕ) → Met (walkMeets r) (prefixAt r s at)
+  met-prefix s at = prefix-ways r s at (λ (a : Answer PrefixAt). Met (walkMeets r) a) one four (λ t. tt)
 
 -- 5 is the plain reading's alone
 five : (r : Reading) (k : Kind) (x : ℕ) → refusedIn r k x ≡ true → walkMeets r 5 ≡ true
@@ -90,18 +69,18 @@ met-list r t s at =
     met-of (walkMeets r) (listAt r t s at)
     (λ f e. list-refuses r t s (λ (f : Refused). walkMeets r (f .number) ≡ true) (one r) (λ x h. five r (kindOf t) x h) at e)
 
-prefix-met : (m : ℕ → Bool) (t : ℕ) (a : Answer PrefixAt) → Met m a → Met m (prefixPiece t a)
+prefix-met : (m : ℕ → Bool) (t : ℕ) (a : Answer PrefixAt) → Met m a → Met m (prefixFound t a)
 prefix-met m t (accepts p) h = tt
 prefix-met m t (declines f) h = h
 
-list-met : (m : ℕ → Bool) (t start : ℕ) (os : List Op) (a : Answer Tally) → Met m a → Met m (listPiece t start os a)
+list-met : (m : ℕ → Bool) (t start : ℕ) (os : List Op) (a : Answer Tally) → Met m a → Met m (listFound t start os a)
 list-met m t start os (accepts l) h = tt
 list-met m t start os (declines f) h = h
 
 met-typed : (r : Reading) (t : ℕ) (s : List ℕ) (at start : ℕ) → Met (walkMeets r) (typedAt r t s at start)
 unfolding typedAt
 met-typed r t s at start =
-    either-met (walkMeets r) (leb t 2) (prefixPiece t (prefixAt r s at)) (listPiece t start (recordedOps r t (opsAt s at)) (listAt r t s at))
+    either-met (walkMeets r) (leb t 2) (prefixFound t (prefixAt r s at)) (listFound t start (recordedOps r t (opsAt s at)) (listAt r t s at))
     (λ e. prefix-met (walkMeets r) t (prefixAt r s at) (met-prefix r s at))
     (λ e. list-met (walkMeets r) t start (recordedOps r t (opsAt s at)) (listAt r t s at) (met-list r t s at))
 
@@ -113,11 +92,11 @@ met-component r s at previous start =
     (λ e. by-test (leb t previous) (λ g. rw (e, g) (early r 2 refl refl))
     (λ g. by-test (ltb (lastType r) t) (λ h. rw (e, g, h) (early r 3 refl refl)) (λ h. rw (e, g, h) (met-typed r t s (at + 1) start))))
 
-joined-met : (m : ℕ → Bool) (p : Piece) (a : Answer Body) → Met m a → Met m (joined p a)
+joined-met : (m : ℕ → Bool) (p : FoundAt) (a : Answer Body) → Met m a → Met m (joined p a)
 joined-met m p (accepts b) h = tt
 joined-met m p (declines f) h = h
 
-turn-met : (m : ℕ → Bool) (t start : ℕ) (a : Answer Piece) (go : ℕ → ℕ → ℕ → Answer Body) → Met m a → ((x y z : ℕ) → Met m (go x y z)) → Met m (turn t start a go)
+turn-met : (m : ℕ → Bool) (t start : ℕ) (a : Answer FoundAt) (go : ℕ → ℕ → ℕ → Answer Body) → Met m a → ((x y z : ℕ) → Met m (go x y z)) → Met m (turn t start a go)
 turn-met m t start (accepts p) go h ih = joined-met m p (go (p .next) t (start + length (p .operators))) (ih (p .next) t (start + length (p .operators)))
 turn-met m t start (declines f) go h ih = h
 

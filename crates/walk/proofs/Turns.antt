@@ -8,7 +8,7 @@ use borrow.Author.Tests.{le-leb, lt-leb}
 use lib.ListN.{length, getD, length-append}
 use Rattle.ground.specs.Answers.{Answer, accepts, refuses, declines}
 use Rattle.choices.specs.declared.Reading.{Reading}
-use Rattle.walk.specs.Walks.{Piece, componentAt, Body, body, joined, turn, walkFrom, walkAt, sight, seen, counted}
+use Rattle.walk.specs.Walks.{FoundAt, componentAt, Body, body, joined, turn, walkFrom, walkAt, sight, seen, counted}
 use Rattle.walk.proofs.Components.{Here, here, Sighted, sighted, unseen}
 
 -- what is left of a walk at a place, after j components
@@ -32,7 +32,7 @@ module _ (r : Reading) (s : List ℕ) (stop at previous start j : ℕ) (few : j 
     pub rest-refused : {n : ℕ} {c : List ℕ} → componentAt r s at previous start ≡ refuses n c → rest r s stop at previous start j ≡ refuses n c
     rest-refused e = step-of ∙ rw e
 
-    pub rest-part : {p : Piece} → componentAt r s at previous start ≡ accepts p
+    pub rest-part : {p : FoundAt} → componentAt r s at previous start ≡ accepts p
         → rest r s stop at previous start j ≡ joined p (rest r s stop (p .next) (getD s at 0) (start + length (p .operators)) (j + 1))
     unfolding rest
     rest-part e = step-of ∙ rw e
@@ -46,7 +46,7 @@ counted-first : (a : Answer Body) → counted a ≡ countedOn 0 a
 counted-first (accepts b) = ap (λ (x : ℕ). accepts x) (omega arith)
 counted-first (declines f) = refl
 
-counted-more : (n : ℕ) (p : Piece) (a : Answer Body) → countedOn n (joined p a) ≡ countedOn (n + length (p .operators)) a
+counted-more : (n : ℕ) (p : FoundAt) (a : Answer Body) → countedOn n (joined p a) ≡ countedOn (n + length (p .operators)) a
 counted-more n p (accepts b) = ap (λ (x : ℕ). accepts x) (simp length-append (omega arith))
 counted-more n p (declines f) = refl
 

@@ -8,12 +8,12 @@ use Rattle.ground.specs.Answers.{Answer, accepts, refuses, declines}
 use Rattle.ground.specs.Picks.{pick}
 use Rattle.refusals.specs.Refusals.{refusal}
 use Rattle.choices.specs.declared.Reading.{Reading}
-use Rattle.choices.specs.declared.Reading.the-variants.{Plain, Ipv4, Ipv6}
 use Rattle.choices.specs.Choices.{lastType}
 use Rattle.operators.specs.Ops.{Op}
-use Rattle.rules.specs.declared.FlowSpecComponent.{FlowSpecComponent}
-use Rattle.rules.specs.Components.{prefixOf, listOf}
-use Rattle.prefixes.specs.Prefixes.{PrefixAt, plainAt, ipv4At, ipv6At}
+use Rattle.stored.specs.declared.Piece.{Piece}
+use Rattle.stored.specs.declared.Piece.the-variants.{Prefix, Operators}
+use Rattle.prefixes.specs.declared.PrefixAt.{PrefixAt}
+use Rattle.prefixes.specs.Prefixes.{prefixAt}
 use Rattle.lists.specs.declared.Tally.{Tally}
 use Rattle.lists.specs.Lists.{listAt, opsAt, recordedOps}
 use Rattle.walk.specs.declared.Found.{Found}
@@ -21,58 +21,52 @@ use Rattle.walk.specs.declared.Found.the-variants.{Component, Refused}
 use Rattle.walk.specs.declared.Walked.{Walked}
 use Rattle.walk.specs.declared.Walked.the-variants.{Accepted, Refused as NotAccepted}
 
--- the sixth choice: how a prefix is read
-abbrev pub prefixAt : Reading → List ℕ → ℕ → Answer PrefixAt
-prefixAt Plain s at = plainAt s at
-prefixAt Ipv4 s at = ipv4At s at
-prefixAt Ipv6 s at = ipv6At s at
-
--- a component, the operators that are recorded of it, and the place after it
-pub record Piece : Type 0 where
-  pub component : FlowSpecComponent
+-- what is found of a component: its piece, the operators that are recorded of it, and the place after it
+pub record FoundAt : Type 0 where
+  pub piece : Piece
   pub operators : List Op
   pub next : ℕ
 
-abbrev pub piece : FlowSpecComponent → List Op → ℕ → Piece
-piece c os next = record { component = c; operators = os; next = next }
+abbrev pub foundAt : Piece → List Op → ℕ → FoundAt
+foundAt p os next = record { piece = p; operators = os; next = next }
 
-abbrev pub prefixPiece : ℕ → Answer PrefixAt → Answer Piece
-prefixPiece type (accepts p) = accepts (piece (prefixOf type (p .prefix)) [] (p .next))
-prefixPiece type (declines f) = declines f
+abbrev pub prefixFound : ℕ → Answer PrefixAt → Answer FoundAt
+prefixFound type (accepts p) = accepts (foundAt (Prefix type (p .prefix)) [] (p .next .at))
+prefixFound type (declines f) = declines f
 
 -- a list's operators go to the places from `start` on
-abbrev pub listPiece : ℕ → ℕ → List Op → Answer Tally → Answer Piece
-listPiece type start os (accepts l) = accepts (piece (listOf type (record { start = start; count = l .count })) os (l .next .at))
-listPiece type start os (declines f) = declines f
+abbrev pub listFound : ℕ → ℕ → List Op → Answer Tally → Answer FoundAt
+listFound type start os (accepts l) = accepts (foundAt (Operators type start (l .count)) os (l .next .at))
+listFound type start os (declines f) = declines f
 
 -- "Types 1 and 2 are prefixes, 9 and 12 bitmask lists, the others numeric lists": what follows a type octet
-unfoldable pub typedAt : Reading → ℕ → List ℕ → ℕ → ℕ → Answer Piece
+unfoldable pub typedAt : Reading → ℕ → List ℕ → ℕ → ℕ → Answer FoundAt
 typedAt reading type s at start =
-    pick (leb type 2) (prefixPiece type (prefixAt reading s at))
-    (listPiece type start (recordedOps reading type (opsAt s at)) (listAt reading type s at))
+    pick (leb type 2) (prefixFound type (prefixAt reading s at))
+    (listFound type start (recordedOps reading type (opsAt s at)) (listAt reading type s at))
 
 -- "Each component starts with a type octet. Checks: the type must exceed the previous one (0 at first), then it must be known (1 to 13; in
 -- the standard IPv4 reading 1 to 12)"; "any octet missing before its bound" is 1
-unfoldable pub componentAt : Reading → List ℕ → ℕ → ℕ → ℕ → Answer Piece
+unfoldable pub componentAt : Reading → List ℕ → ℕ → ℕ → ℕ → Answer FoundAt
 componentAt reading s at previous start =
     pick (leb (length s) at) (refuses 1 [])
     (pick (leb (getD s at 0) previous) (refuses 2 (previous ∷ getD s at 0 ∷ []))
     (pick (ltb (lastType reading) (getD s at 0)) (refuses 3 (getD s at 0 ∷ [])) (typedAt reading (getD s at 0) s (at + 1) start)))
 
--- the components of a body, and their operators one after the other
+-- the pieces of a body, and their operators one after the other
 pub record Body : Type 0 where
-  pub components : List FlowSpecComponent
+  pub pieces : List Piece
   pub operators : List Op
 
-abbrev pub body : List FlowSpecComponent → List Op → Body
-body cs os = record { components = cs; operators = os }
+abbrev pub body : List Piece → List Op → Body
+body ps os = record { pieces = ps; operators = os }
 
-abbrev pub joined : Piece → Answer Body → Answer Body
-joined p (accepts b) = accepts (body (p .component ∷ b .components) (p .operators ++ b .operators))
+abbrev pub joined : FoundAt → Answer Body → Answer Body
+joined p (accepts b) = accepts (body (p .piece ∷ b .pieces) (p .operators ++ b .operators))
 joined p (declines f) = declines f
 
 -- what follows from a component, of which the type is given and the operators start at a place
-abbrev pub turn : ℕ → ℕ → Answer Piece → (ℕ → ℕ → ℕ → Answer Body) → Answer Body
+abbrev pub turn : ℕ → ℕ → Answer FoundAt → (ℕ → ℕ → ℕ → Answer Body) → Answer Body
 turn type start (accepts p) go = joined p (go (p .next) type (start + length (p .operators)))
 turn type start (declines f) go = declines f
 
@@ -98,13 +92,9 @@ abbrev pub toldFound : Found → Answer Sight
 toldFound (Component n next) = accepts (sight n (next .at))
 toldFound (Refused f) = refusal f
 
-abbrev pub seen : Answer Piece → Answer Sight
+abbrev pub seen : Answer FoundAt → Answer Sight
 seen (accepts p) = accepts (sight (length (p .operators)) (p .next))
 seen (declines f) = declines f
-
-abbrev pub ended : Answer PrefixAt → Answer Sight
-ended (accepts p) = accepts (sight 0 (p .next))
-ended (declines f) = declines f
 
 -- and of all of them: how many operators they have
 abbrev pub toldWalk : Walked → Answer ℕ
