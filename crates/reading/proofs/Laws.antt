@@ -15,10 +15,10 @@ use Rattle.choices.specs.declared.Reading.{Reading}
 use Rattle.choices.specs.declared.Reading.the-variants.{Plain, Ipv4, Ipv6}
 use Rattle.choices.specs.Choices.{boundOf, familyOf, standardOf}
 use Rattle.walk.specs.Walks.{Body, walkAt}
-use Rattle.walk.proofs.Mets.{walkMeets, Met, met-walk}
+use Rattle.walk.proofs.Refusals.{walkMeets, Met, met-walk}
 use Rattle.walk.proofs.Chains.{Chain, used-up}
 use Rattle.reading.specs.Readings.{ReadRule, readRule, ruled, part, statedAt, afterLength, tooLong, readAt, shorter, roomed, readInto, standardInto}
-use Rattle.reading.proofs.Rules.{read-walked}
+use Rattle.reading.proofs.Walked.{read-walked}
 
 -- the refusals that a reading may meet: the walk's, 8 in the plain reading, and 9
 abbrev pub readMeets : Reading → ℕ → Bool

@@ -1,7 +1,7 @@
-pub mod Pieces
-pub mod Heads
-pub mod Intos
+pub mod Components
+pub mod Stores
+pub mod Ways
 pub mod Bodies
-pub mod Rules
+pub mod Walked
 pub mod Once
 pub mod Laws

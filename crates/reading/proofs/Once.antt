@@ -1,11 +1,9 @@
 -- No second answer meets a contract here: an answer can be read back from what is told of it, and every lent list afterwards is stated whole.
-use mathlib.Core.Path.{_≡_, refl, sym, _∙_, ap, ap₂}
+use mathlib.Core.Path.{_≡_, refl, sym, _∙_, ap}
 use Rattle.ground.specs.Answers.{Answer, accepts, declines}
 use Rattle.refusals.proofs.Once.{faultOf, fault-back}
-use Rattle.rules.specs.declared.FlowSpecNlri.{FlowSpecNlri}
 use Rattle.reading.specs.declared.ReadInto.{ReadInto}
 use Rattle.reading.specs.declared.ReadInto.the-variants.{Read, Refused}
-use Rattle.reading.specs.declared.Parsed.{Parsed}
 use Rattle.reading.specs.Readings.{Taken, toldInto}
 
 abbrev intoOf : Answer Taken → ReadInto
@@ -18,6 +16,3 @@ into-back (Refused f) = ap Refused (fault-back f)
 
 pub into-once : (a b : ReadInto) → toldInto a ≡ toldInto b → a ≡ b
 into-once a b h = sym (into-back a) ∙ ap intoOf h ∙ into-back b
-
-pub parsed-once : (a b : Parsed) → toldInto (a .answer) ≡ toldInto (b .answer) → a .rule ≡ b .rule → a ≡ b
-parsed-once a b h e = ap₂ (λ (x : ReadInto) (y : FlowSpecNlri). record { answer = x; rule = y }) (into-once (a .answer) (b .answer) h) e

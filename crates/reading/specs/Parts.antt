@@ -5,18 +5,21 @@ use mathlib.Core.Path.{_≡_}
 use mathlib.Core.Bool.{Bool, true, false}
 use mathlib.Core.List.{List, []}
 use lib.ListN.{length, getD}
+use lib.Dec.{ltb}
+use Rattle.ground.specs.Picks.{pick}
 use Rattle.ground.specs.Answers.{Answer, accepts, declines}
 use Rattle.choices.specs.declared.Reading.{Reading}
-use Rattle.rules.specs.declared.FlowSpecComponent.the-variants.{Nothing}
-use Rattle.walk.specs.Walks.{Piece, piece, typedAt, Body, body, walkAt}
+use Rattle.stored.specs.declared.Piece.the-variants.{NoRecord}
+use Rattle.reading.specs.Readings.{ReadRule, readRule, readAt}
+use Rattle.walk.specs.Walks.{FoundAt, foundAt, typedAt, Body, body, walkAt}
 
-abbrev pub isPiece : Answer Piece → Bool
-isPiece (accepts p) = true
-isPiece (declines f) = false
+abbrev pub isFound : Answer FoundAt → Bool
+isFound (accepts p) = true
+isFound (declines f) = false
 
-abbrev pub pieceIn : Answer Piece → Piece
-pieceIn (accepts p) = p
-pieceIn (declines f) = piece Nothing [] 0
+abbrev pub foundIn : Answer FoundAt → FoundAt
+foundIn (accepts p) = p
+foundIn (declines f) = foundAt NoRecord [] 0
 
 abbrev pub isBody : Answer Body → Bool
 isBody (accepts b) = true
@@ -27,7 +30,7 @@ bodyIn (accepts b) = b
 bodyIn (declines f) = body [] []
 
 -- the component whose type octet stands at a place
-unfoldable pub typedHere : Reading → List ℕ → ℕ → ℕ → Answer Piece
+unfoldable pub typedHere : Reading → List ℕ → ℕ → ℕ → Answer FoundAt
 typedHere reading s at start = typedAt reading (getD s at 0) s (at + 1) start
 
 -- it was accepted
@@ -35,11 +38,27 @@ pub record Standing (reading : Reading) (s : List ℕ) (at start : ℕ) : Type 0
   pub within : at < length s
   pub first : 1 ≤ getD s at 0
   pub most : getD s at 0 ≤ 13
-  pub accepted : isPiece (typedHere reading s at start) ≡ true
+  pub accepted : isFound (typedHere reading s at start) ≡ true
 
-abbrev pub pieceAt : Reading → List ℕ → ℕ → ℕ → Piece
-pieceAt reading s at start = pieceIn (typedHere reading s at start)
+abbrev pub foundHere : Reading → List ℕ → ℕ → ℕ → FoundAt
+foundHere reading s at start = foundIn (typedHere reading s at start)
 
 -- what the walk over a body gave
 abbrev pub bodyAt : Reading → List ℕ → ℕ → Body
 bodyAt reading s stop = bodyIn (walkAt reading s stop)
+
+-- what an accepted input is to a reading
+abbrev pub isRead : Answer ReadRule → Bool
+isRead (accepts r) = true
+isRead (declines f) = false
+
+abbrev pub ruleIn : Answer ReadRule → ReadRule
+ruleIn (accepts r) = r
+ruleIn (declines f) = readRule (body [] []) 0 0
+
+abbrev pub readOf : Reading → List ℕ → ReadRule
+readOf reading s = ruleIn (readAt reading s)
+
+-- where the body starts, by the first octet of the length
+abbrev pub bodyStart : ℕ → ℕ
+bodyStart octet = pick (ltb octet 240) 1 2

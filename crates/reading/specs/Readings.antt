@@ -5,7 +5,7 @@ use Prim.Native.Nat.{ℕ, _+_, _-_}
 use mathlib.Core.Bool.{Bool, false}
 use mathlib.Core.List.{List, [], _∷_}
 use lib.ListN.{length, take, drop}
-use lib.Dec.{ltb, leb, eqb}
+use lib.Dec.{ltb, leb}
 use Rattle.ground.specs.Answers.{Answer, accepts, refuses, declines}
 use Rattle.ground.specs.Picks.{pick}
 use Rattle.refusals.specs.Refusals.{refusal}
@@ -15,22 +15,21 @@ use Rattle.choices.specs.declared.Reading.{Reading}
 use Rattle.choices.specs.declared.Reading.the-variants.{Plain, Ipv4, Ipv6}
 use Rattle.choices.specs.Choices.{boundOf, familyOf, standardOf}
 use Rattle.operators.specs.Ops.{Op}
-use Rattle.rules.specs.declared.FlowSpecComponent.{FlowSpecComponent}
-use Rattle.rules.specs.declared.FlowSpecNlri.{FlowSpecNlri}
-use Rattle.stored.specs.Stored.{ruleWords, storedRule, ruleOf}
+use Rattle.stored.specs.declared.Piece.{Piece}
+use Rattle.stored.specs.Stored.{head, ruleWords}
 use Rattle.walk.specs.Walks.{Body, walkAt}
 use Rattle.reading.specs.declared.ReadInto.{ReadInto}
 use Rattle.reading.specs.declared.ReadInto.the-variants.{Read, Refused}
 
--- a rule that was read: its components and operators, its family (0 is a plain rule), and the octets that it used
+-- a rule that was read: its pieces and operators, its family (0 is a plain rule), and the octets that it used
 pub record ReadRule : Type 0 where
-  pub components : List FlowSpecComponent
+  pub pieces : List Piece
   pub operators : List Op
   pub family : ℕ
   pub used : ℕ
 
 abbrev pub readRule : Body → ℕ → ℕ → ReadRule
-readRule b family used = record { components = b .components; operators = b .operators; family = family; used = used }
+readRule b family used = record { pieces = b .pieces; operators = b .operators; family = family; used = used }
 
 abbrev pub ruled : ℕ → ℕ → Answer Body → Answer ReadRule
 ruled family used (accepts b) = accepts (readRule b family used)
@@ -101,14 +100,9 @@ takenOf (declines f) = declines f
 
 -- what is written, "A refusal changes no lent octet or place": the rule's 64 words, and the operators
 abbrev pub wordsOf : Answer ReadRule → List ℕ
-wordsOf (accepts r) = ruleWords (r .components) (r .family) 0
+wordsOf (accepts r) = ruleWords (r .pieces) (head (r .family) 0)
 wordsOf (declines f) = []
 
 abbrev pub operatorsOf : Answer ReadRule → List Op
 operatorsOf (accepts r) = r .operators
 operatorsOf (declines f) = []
-
--- the rule by value; the empty one beside a refusal
-abbrev pub nlriOf : Answer ReadRule → FlowSpecNlri
-nlriOf (accepts r) = ruleOf (storedRule (r .components) (r .family) 0)
-nlriOf (declines f) = ruleOf (storedRule [] 0 0)

@@ -9,34 +9,28 @@ ghost use lib.ListN.{length};
 ghost use lib.Seq.{sets};
 ghost use Rattle.operators.specs.Ops.{octetOf, numberOf};
 ghost use Rattle.choices.specs.declared.Reading.{Reading};
-ghost use Rattle.lists.specs.Runs.{Room};
-ghost use Rattle.stored.specs.Stored.{componentWords, ruleWords};
+ghost use Rattle.lists.specs.Runs.{Places};
+ghost use Rattle.stored.specs.Pieces.{pieceWords};
+ghost use Rattle.stored.specs.Stored.{head, ruleWords};
 ghost use Rattle.walk.specs.Walks.{walkAt};
-ghost use Rattle.reading.specs.Readings.{tooLong, statedAt, roomed, readInto, standardInto, toldInto, takenOf, wordsOf, operatorsOf, nlriOf};
-ghost use Rattle.choices.specs.Choices.{familyOf, standardOf, toldStandard};
-ghost use Rattle.reading.specs.Parts.{isBody, Standing, pieceAt, bodyAt};
+ghost use Rattle.reading.specs.Readings.{tooLong, statedAt, readAt, readInto, standardInto, toldInto, takenOf, wordsOf, operatorsOf};
+ghost use Rattle.choices.specs.Choices.{familyOf};
+ghost use Rattle.reading.specs.Parts.{isBody, Standing, foundHere, bodyAt, isRead, readOf, bodyStart};
 use choices::Reading;
 use choices::Standard;
 use lists::Tally;
 use octets::Cursor;
 use octets::Length;
 use octets::LengthRead;
-use prefixes::PrefixRead;
 use refusals::Fault;
 use refusals::FlowSpecError;
-use rules::FlowSpecNlri;
+use stored::Piece;
 use walk::Walked;
 
 // How many octets were used, length octets included, and how many operators there are.
 pub enum ReadInto {
     Read { used: usize, operators: usize },
     Refused(Fault),
-}
-
-// A rule by value beside the answer, empty on a refusal: an enum can't hold an array.
-pub struct Parsed {
-    pub answer: ReadInto,
-    pub rule: FlowSpecNlri,
 }
 
 // Whether an input of so many octets is refused unread.
@@ -50,8 +44,15 @@ fn too_long(reading: Reading, n: usize) -> bool
     }
 }
 
-// The component at a place to the words from `word` on, and its operators to the lists from `start` on. Answers how many operators there
-// are, and the place after it.
+// Where the body starts, by the first octet of the length.
+fn body_start(octet: u8) -> usize
+    ensures { λ r. ⌜ r ≡ bodyStart octet ⌝ }
+{
+    if octet < 240 { 1 } else { 2 }
+}
+
+// The component at a place to the words from `word` on, and its operators to the lists: they start at `start` counted from `first`. Answers how
+// many operators there are, and the place after it.
 fn put_part(
     reading: Reading,
     s: &[u8],
@@ -60,46 +61,47 @@ fn put_part(
     word: usize,
     values: &mut [u64],
     octets: &mut [u8],
+    first: usize,
     start: usize,
 ) -> Tally
     requires { ⌜ Standing reading (now s) at start ⌝ }
     requires { ⌜ word + 4 ≤ length (now words) ⌝ }
-    requires { ⌜ Room start (length (pieceAt reading (now s) at start .operators)) (length (now values)) (length (now octets)) ⌝ }
-    ensures words { λ r. ⌜ now (words .exit) ≡ sets (now (words .entry)) word (componentWords (pieceAt reading (now (s .entry)) at start .component)) ⌝ }
-    ensures values { λ r. ⌜ now (values .exit) ≡ sets (now (values .entry)) start (map numberOf (pieceAt reading (now (s .entry)) at start .operators)) ⌝ }
-    ensures octets { λ r. ⌜ now (octets .exit) ≡ sets (now (octets .entry)) start (map octetOf (pieceAt reading (now (s .entry)) at start .operators)) ⌝ }
-    ensures end { λ r. ⌜ r .next .at ≡ pieceAt reading (now (s .entry)) at start .next ⌝ }
-    ensures count { λ r. ⌜ r .count ≡ length (pieceAt reading (now (s .entry)) at start .operators) ⌝ }
+    requires { ⌜ Places (first + start) (length (foundHere reading (now s) at start .operators)) (length (now values)) (length (now octets)) ⌝ }
+    ensures words { λ r. ⌜ now (words .exit) ≡ sets (now (words .entry)) word (pieceWords (foundHere reading (now (s .entry)) at start .piece)) ⌝ }
+    ensures values { λ r. ⌜ now (values .exit) ≡ sets (now (values .entry)) (first + start) (map numberOf (foundHere reading (now (s .entry)) at start .operators)) ⌝ }
+    ensures octets { λ r. ⌜ now (octets .exit) ≡ sets (now (octets .entry)) (first + start) (map octetOf (foundHere reading (now (s .entry)) at start .operators)) ⌝ }
+    ensures end { λ r. ⌜ r .next .at ≡ foundHere reading (now (s .entry)) at start .next ⌝ }
+    ensures count { λ r. ⌜ r .count ≡ length (foundHere reading (now (s .entry)) at start .operators) ⌝ }
 {
-    let kind = s[at];
+    let tag = s[at];
     let from = at + 1;
-    if kind <= 2 {
-        match walk::prefix_at(reading, s, Cursor { at: from }) {
-            PrefixRead::Whole { prefix, next } => {
-                stored::put_component(words, word, rules::prefix_of(kind, prefix));
-                return Tally {
-                    count: 0,
-                    next: next,
-                };
-            }
-            PrefixRead::Refused(_) => {
-                return Tally {
-                    count: 0,
-                    next: Cursor { at: from },
-                };
-            }
-        }
+    if tag <= 2 {
+        let p = prefixes::prefix_in(reading, s, Cursor { at: from });
+        let prefix = p.prefix;
+        let next = p.next;
+        stored::put_piece(
+            words,
+            word,
+            Piece::Prefix {
+                tag: tag,
+                prefix: prefix,
+            },
+        );
+        return Tally {
+            count: 0,
+            next: next,
+        };
     }
-    let t = lists::fill(
-        s,
-        from,
-        reading,
-        operators::kind_of(kind),
-        values,
-        octets,
-        start,
+    let t = lists::fill(s, from, reading, tag, values, octets, first + start);
+    stored::put_piece(
+        words,
+        word,
+        Piece::Operators {
+            tag: tag,
+            start: start,
+            count: t.count,
+        },
     );
-    stored::put_words(words, word, kind as u64, start as u64, t.count as u64, 0);
     t
 }
 
@@ -111,40 +113,41 @@ fn put_all(
     words: &mut [u64],
     values: &mut [u64],
     octets: &mut [u8],
+    first: usize,
 )
     requires { ⌜ isBody (walkAt reading (now s) stop) ≡ true ⌝ }
     requires { ⌜ 64 ≤ length (now words) ⌝ }
-    requires { ⌜ Room 0 (length (bodyAt reading (now s) stop .operators)) (length (now values)) (length (now octets)) ⌝ }
-    ensures words { λ _. ⌜ now (words .exit) ≡ sets (now (words .entry)) 0 (ruleWords (bodyAt reading (now (s .entry)) stop .components) (familyOf reading) 0) ⌝ }
-    ensures values { λ _. ⌜ now (values .exit) ≡ sets (now (values .entry)) 0 (map numberOf (bodyAt reading (now (s .entry)) stop .operators)) ⌝ }
-    ensures octets { λ _. ⌜ now (octets .exit) ≡ sets (now (octets .entry)) 0 (map octetOf (bodyAt reading (now (s .entry)) stop .operators)) ⌝ }
+    requires { ⌜ Places first (length (bodyAt reading (now s) stop .operators)) (length (now values)) (length (now octets)) ⌝ }
+    ensures words { λ _. ⌜ now (words .exit) ≡ sets (now (words .entry)) 0 (ruleWords (bodyAt reading (now (s .entry)) stop .pieces) (head (familyOf reading) first)) ⌝ }
+    ensures values { λ _. ⌜ now (values .exit) ≡ sets (now (values .entry)) first (map numberOf (bodyAt reading (now (s .entry)) stop .operators)) ⌝ }
+    ensures octets { λ _. ⌜ now (octets .exit) ≡ sets (now (octets .entry)) first (map octetOf (bodyAt reading (now (s .entry)) stop .operators)) ⌝ }
 {
     let mut at: usize = 0;
     let mut start: usize = 0;
     let mut count: usize = 0;
     while at < stop {
-        let t = put_part(reading, s, at, words, 4 * count, values, octets, start);
+        let t = put_part(
+            reading,
+            s,
+            at,
+            words,
+            4 * count,
+            values,
+            octets,
+            first,
+            start,
+        );
         at = t.next.at;
         start += t.count;
         count += 1;
     }
-    stored::put_tail(words, 0, count, choices::family_of(reading), 0);
+    stored::put_tail(words, 0, count, choices::family_of(reading), first);
 }
 
-// What follows the length.
-fn read_body(
-    reading: Reading,
-    input: &[u8],
-    stated: Length,
-    words: &mut [u64],
-    values: &mut [u64],
-    octets: &mut [u8],
-) -> ReadInto
+// The first walk over what follows the length.
+fn test_body(reading: Reading, input: &[u8], stated: Length) -> ReadInto
     requires { ⌜ stated .next .at ≤ length (now input) ⌝ }
-    ensures answer { λ r. ⌜ toldInto r ≡ takenOf (roomed (statedAt reading (now (input .entry)) (stated .next .at) (stated .size)) (length (now (words .entry))) (length (now (values .entry))) (length (now (octets .entry)))) ⌝ }
-    ensures words { λ r. ⌜ now (words .exit) ≡ sets (now (words .entry)) 0 (wordsOf (roomed (statedAt reading (now (input .entry)) (stated .next .at) (stated .size)) (length (now (words .entry))) (length (now (values .entry))) (length (now (octets .entry))))) ⌝ }
-    ensures values { λ r. ⌜ now (values .exit) ≡ sets (now (values .entry)) 0 (map numberOf (operatorsOf (roomed (statedAt reading (now (input .entry)) (stated .next .at) (stated .size)) (length (now (words .entry))) (length (now (values .entry))) (length (now (octets .entry)))))) ⌝ }
-    ensures octets { λ r. ⌜ now (octets .exit) ≡ sets (now (octets .entry)) 0 (map octetOf (operatorsOf (roomed (statedAt reading (now (input .entry)) (stated .next .at) (stated .size)) (length (now (words .entry))) (length (now (values .entry))) (length (now (octets .entry)))))) ⌝ }
+    ensures { λ r. ⌜ toldInto r ≡ takenOf (statedAt reading (now (input .entry)) (stated .next .at) (stated .size)) ⌝ }
 {
     let start = stated.next.at;
     let size = stated.size;
@@ -155,32 +158,59 @@ fn read_body(
     }
     let used = start + size;
     let end = choices::bound(reading, input.len(), used);
-    let body = &input[start..end];
-    match walk::walk(reading, body, size) {
+    match walk::walk(reading, &input[start..end], size) {
+        Walked::Accepted { operators } => ReadInto::Read {
+            used: used,
+            operators: operators,
+        },
         Walked::Refused(fault) => ReadInto::Refused(fault),
-        Walked::Accepted { operators } => {
-            if words.len() < 64 {
-                return ReadInto::Refused(Fault {
-                    error: FlowSpecError::NoRoom(1),
-                });
-            }
-            if values.len() < operators {
-                return ReadInto::Refused(Fault {
-                    error: FlowSpecError::NoRoom(operators),
-                });
-            }
-            if octets.len() < operators {
-                return ReadInto::Refused(Fault {
-                    error: FlowSpecError::NoRoom(operators),
-                });
-            }
-            put_all(reading, body, size, words, values, octets);
-            ReadInto::Read {
-                used: used,
-                operators: operators,
-            }
-        }
     }
+}
+
+// What a reading with room for all would answer. Nothing is lent to be written.
+pub fn test(reading: Reading, input: &[u8]) -> ReadInto
+    ensures { λ r. ⌜ toldInto r ≡ takenOf (readAt reading (now (input .entry))) ⌝ }
+{
+    if too_long(reading, input.len()) {
+        return ReadInto::Refused(Fault {
+            error: FlowSpecError::InputTooLong(input.len()),
+        });
+    }
+    let c = Cursor { at: 0 };
+    match c.parse_length(input) {
+        LengthRead::Is(stated) => test_body(reading, input, stated),
+        LengthRead::Refused(fault) => ReadInto::Refused(fault),
+    }
+}
+
+// The second pass over an input that was tested, and used so many octets: its rule to the first 64 words, its operators to the lists from `first`
+// on. Nothing is tested again. No entry point.
+pub fn store(
+    reading: Reading,
+    input: &[u8],
+    used: usize,
+    words: &mut [u64],
+    values: &mut [u64],
+    octets: &mut [u8],
+    first: usize,
+)
+    requires accepted { ⌜ (isRead (readAt reading (now input)) ≡ true) × (used ≡ readOf reading (now input) .used) ⌝ }
+    requires room { ⌜ (64 ≤ length (now words)) × Places first (length (readOf reading (now input) .operators)) (length (now values)) (length (now octets)) ⌝ }
+    ensures words { λ _. ⌜ now (words .exit) ≡ sets (now (words .entry)) 0 (ruleWords (readOf reading (now (input .entry)) .pieces) (head (readOf reading (now (input .entry)) .family) first)) ⌝ }
+    ensures values { λ _. ⌜ now (values .exit) ≡ sets (now (values .entry)) first (map numberOf (readOf reading (now (input .entry)) .operators)) ⌝ }
+    ensures octets { λ _. ⌜ now (octets .exit) ≡ sets (now (octets .entry)) first (map octetOf (readOf reading (now (input .entry)) .operators)) ⌝ }
+{
+    let start = body_start(input[0]);
+    let end = choices::bound(reading, input.len(), used);
+    put_all(
+        reading,
+        &input[start..end],
+        used - start,
+        words,
+        values,
+        octets,
+        first,
+    );
 }
 
 // Any of the readings, to one rule place and to the operator lists. Nothing is written on a refusal, and places past the last one filled stay.
@@ -196,15 +226,31 @@ pub fn read_into(
     ensures values { λ r. ⌜ now (values .exit) ≡ sets (now (values .entry)) 0 (map numberOf (operatorsOf (readInto reading (now (input .entry)) (length (now (words .entry))) (length (now (values .entry))) (length (now (octets .entry)))))) ⌝ }
     ensures octets { λ r. ⌜ now (octets .exit) ≡ sets (now (octets .entry)) 0 (map octetOf (operatorsOf (readInto reading (now (input .entry)) (length (now (words .entry))) (length (now (values .entry))) (length (now (octets .entry)))))) ⌝ }
 {
-    if too_long(reading, input.len()) {
-        return ReadInto::Refused(Fault {
-            error: FlowSpecError::InputTooLong(input.len()),
-        });
-    }
-    let c = Cursor { at: 0 };
-    match c.parse_length(input) {
-        LengthRead::Is(stated) => read_body(reading, input, stated, words, values, octets),
-        LengthRead::Refused(fault) => ReadInto::Refused(fault),
+    let tested = test(reading, input);
+    match tested {
+        ReadInto::Refused(fault) => ReadInto::Refused(fault),
+        ReadInto::Read { used, operators } => {
+            if words.len() < 64 {
+                return ReadInto::Refused(Fault {
+                    error: FlowSpecError::NoRoom(1),
+                });
+            }
+            if values.len() < operators {
+                return ReadInto::Refused(Fault {
+                    error: FlowSpecError::NoRoom(operators),
+                });
+            }
+            if octets.len() < operators {
+                return ReadInto::Refused(Fault {
+                    error: FlowSpecError::NoRoom(operators),
+                });
+            }
+            store(reading, input, used, words, values, octets, 0);
+            ReadInto::Read {
+                used: used,
+                operators: operators,
+            }
+        }
     }
 }
 
@@ -224,22 +270,5 @@ pub fn read(
     match choices::reading_of(family) {
         Standard::Is(reading) => read_into(reading, input, words, values, octets),
         Standard::Refused(fault) => ReadInto::Refused(fault),
-    }
-}
-
-// The plain reading with the rule by value, off the hot path: a rule by value is 432 bytes.
-pub fn parse_flowspec_nlri(input: &[u8], values: &mut [u64], octets: &mut [u8]) -> Parsed
-    ensures answer { λ r. ⌜ toldInto (r .answer) ≡ takenOf (readInto Reading.Plain (now (input .entry)) 64 (length (now (values .entry))) (length (now (octets .entry)))) ⌝ }
-    ensures rule { λ r. ⌜ r .rule ≡ nlriOf (readInto Reading.Plain (now (input .entry)) 64 (length (now (values .entry))) (length (now (octets .entry)))) ⌝ }
-    ensures values { λ r. ⌜ now (values .exit) ≡ sets (now (values .entry)) 0 (map numberOf (operatorsOf (readInto Reading.Plain (now (input .entry)) 64 (length (now (values .entry))) (length (now (octets .entry)))))) ⌝ }
-    ensures octets { λ r. ⌜ now (octets .exit) ≡ sets (now (octets .entry)) 0 (map octetOf (operatorsOf (readInto Reading.Plain (now (input .entry)) 64 (length (now (values .entry))) (length (now (octets .entry)))))) ⌝ }
-{
-    let mut words = [0u64; 64];
-    let answer = read_into(Reading::Plain, input, &mut words, values, octets);
-    let read = stored::rule_at(&words, 0);
-    let rule = read.rule;
-    Parsed {
-        answer: answer,
-        rule: rule,
     }
 }

@@ -1,11 +1,11 @@
--- `reading::put_all` meets its contract. `Heads.antt` has the invariant, `Head`, and what a turn does to it.
+-- `reading::put_all` meets its contract. `Stores.antt` has the invariant, `Stored`, and what a turn does to it.
 use Prim.Native.Nat.{_-_, _≤_}
 use mathlib.Core.Path.{_∙_, ap}
 use native.Mathlib.Omega.{arith}
 use borrow.Author.Needs.{needs}
 use lib.ListN.{length}
 use lib.Seq.{length-sets}
-use Rattle.reading.proofs.Heads.{Head, head-first, head-end, head-more, few-of, standing, bounds, asked}
+use Rattle.reading.proofs.Stores.{Stored, stored-first, stored-end, stored-more, few-of, standing, bounds, asked}
 use Rattle.reading.proofs.put_all.Statement.{statement}
 use Rattle.reading.proofs.put_all.Tie as tie
 use Rattle.reading.proofs.put_all.Reads as reads
@@ -15,17 +15,17 @@ use Rattle.reading.proofs.put_part.Reads as put-part-reads
 use Rattle.stored.proofs.put_tail.Reads as put-tail-reads
 
 abbrev Inv-loop : tie.InvT-loop
-Inv-loop reading s stop words₀ values₀ octets₀ at₀ start₀ count₀ words values octets at start count =
-    (at ≤ length s) × Head reading s stop words₀ values₀ octets₀ words values octets at start count
+Inv-loop reading s stop words₀ values₀ octets₀ first at₀ start₀ count₀ words values octets at start count =
+    (at ≤ length s) × Stored reading s stop first words₀ values₀ octets₀ words values octets at start count
 
 abbrev μ-loop : tie.MeasureT-loop
-μ-loop reading s stop words₀ values₀ octets₀ at₀ start₀ count₀ words values octets at start count =
+μ-loop reading s stop words₀ values₀ octets₀ first at₀ start₀ count₀ words values octets at start count =
     length s - at
 
 loop-holds : tie.Need-loop-holds Inv-loop μ-loop
 loop-holds c =
     let g = c .before .before .before .before in
-    (omega arith, head-first (g .args .reading) _ (g .args .stop) _ _ _ (g .pre .0) (g .pre .1 .0) (g .pre .1 .1))
+    (omega arith, stored-first (g .args .reading) _ (g .args .stop) (g .args .first) _ _ _ (g .pre .0) (g .pre .1 .0) (g .pre .1 .1))
 
 mul-put-part : tie.Need-mul-put-part Inv-loop μ-loop
 mul-put-part c =
@@ -62,7 +62,7 @@ loop-again c =
     let i = u .before .before .before .before in
     let e = u .put-part .ensures in
     let h = i .before .loop .inv .1 in
-    (omega (arith, e .1 .1 .1 .0, bounds h (i .loop-test .taken)), head-more h (i .loop-test .taken) _ _ _ (e .1 .1 .1 .0) (e .1 .1 .1 .1) (e .0) (e .1 .0) (e .1 .1 .0))
+    (omega (arith, e .1 .1 .1 .0, bounds h (i .loop-test .taken)), stored-more h (i .loop-test .taken) _ _ _ (e .1 .1 .1 .0) (e .1 .1 .1 .1) (e .0) (e .1 .0) (e .1 .1 .0))
 
 family-of-requires : tie.Need-family-of-requires Inv-loop μ-loop
 family-of-requires c κs = search needs
@@ -88,7 +88,7 @@ returns c =
     let p = c .before .before in
     let f = p .before in
     let w = f .before .before in
-    rw (← (f .family-of .ensures)) (head-end (w .before .loop .inv .1) (w .loop-test .left) _ (p .put-tail .ensures))
+    rw (← (f .family-of .ensures)) (stored-end (w .before .loop .inv .1) (w .loop-test .left) _ (p .put-tail .ensures))
 
 pub put-all-spec : {M : Type 1} → statement M
 put-all-spec =

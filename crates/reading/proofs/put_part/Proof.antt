@@ -1,36 +1,27 @@
--- `reading::put_part` meets its contract: what is stored is a prefix, by `prefix-post`, or a list, by `list-post`.
-use mathlib.Core.Path.{sym, _∙_, ap}
-use Rattle.prefixes.specs.Prefixes.{toldPrefix}
-use Rattle.reading.proofs.Pieces.{no-refusal, prefix-post, list-whole, list-room, list-post}
+-- `reading::put_part` meets its contract: what was accepted is a prefix or a list (`Components.antt`).
+use Rattle.reading.proofs.Components.{extent-there, prefix-post, list-whole, list-room, list-post}
 use borrow.Author.Needs.{needs}
 use Rattle.reading.proofs.put_part.Statement.{statement}
 use Rattle.reading.proofs.put_part.Tie as tie
 use Rattle.reading.proofs.put_part.Reads as reads
 use Rattle.reading.proofs.put_part.Lts as lts
-use Rattle.operators.proofs.kind_of.Reads as kind-of-reads
 use Rattle.lists.proofs.fill.Reads as fill-reads
-use Rattle.rules.proofs.prefix_of.Reads as prefix-of-reads
-use Rattle.stored.proofs.put_component.Reads as put-component-reads
-use Rattle.stored.proofs.put_words.Reads as put-words-reads
-use Rattle.walk.proofs.prefix_at.Reads as prefix-at-reads
+use Rattle.prefixes.proofs.prefix_in.Reads as prefix-in-reads
+use Rattle.stored.proofs.put_piece.Reads as put-piece-reads
 
-shared-slice-read-kind : tie.Need-shared-slice-read-kind
-shared-slice-read-kind c = search needs
+shared-slice-read-tag : tie.Need-shared-slice-read-tag
+shared-slice-read-tag c = search needs
 
 add-from : tie.Need-add-from
 add-from c = search needs
 
-prefix-at-requires : tie.Need-prefix-at-requires
-prefix-at-requires c κs = search needs
+prefix-in-requires : tie.Need-prefix-in-requires
+prefix-in-requires c κs =
+    let g = c .before .before .before .before .before .before in
+    extent-there (g .args .reading) (g .args .s .now) (g .args .at) (g .args .first) (g .args .start) (g .pre .0) (c .if1 .taken)
 
-enum-known-prefix : tie.Need-enum-known-prefix
-enum-known-prefix c = search needs
-
-prefix-of-requires : tie.Need-prefix-of-requires
-prefix-of-requires c κs = search needs
-
-put-component-requires : tie.Need-put-component-requires
-put-component-requires c κs = search needs
+put-piece-requires : tie.Need-put-piece-requires
+put-piece-requires c κs = search needs
 
 same-length : tie.Need-same-length
 same-length c = search needs
@@ -38,37 +29,23 @@ same-length c = search needs
 returns : tie.Need-returns
 returns c =
     let u = c .before .before in
-    let v = u .before in
-    let k = v .before .before .before in
-    let a = k .before .before in
-    let g = a .before .before .before .before .before .before .before in
-    prefix-post (g .args .reading) (g .args .s .now) (g .args .at) (g .args .start) (g .pre .0) (a .before .if1 .taken) (g .args .words .now) (g .args .values .now) (g .args .octets .now) (g .args .word)
-    (sym (ap toldPrefix (k .prefix .given .1)) ∙ a .prefix-at .ensures) (v .prefix-of .ensures) (u .put-component .ensures)
+    let p = u .before .before .before in
+    let k = p .before in
+    let g = k .before .before .before .before .before .before in
+    prefix-post (g .args .reading) (g .args .s .now) (g .args .at) (g .args .first) (g .args .start) (g .pre .0) (k .if1 .taken) (g .args .words .now) (g .args .values .now) (g .args .octets .now) (g .args .word)
+    (p .prefix-in .ensures) (u .put-piece .ensures)
 
-enum-told : tie.Need-enum-told
-enum-told c = search needs
-
-returns-2 : tie.Need-returns-2
-returns-2 c =
-    let a = c .before .before in
-    let g = a .before .before .before .before .before .before .before in
-    no-refusal (g .args .reading) (g .args .s .now) (g .args .at) (g .args .start) (g .pre .0) (a .before .if1 .taken) (sym (ap toldPrefix (c .enum-told .given .1)) ∙ a .prefix-at .ensures)
-
-kind-of-requires : tie.Need-kind-of-requires
-kind-of-requires c κs = search needs
+add-fill : tie.Need-add-fill
+add-fill c = search needs
 
 fill-requires : tie.Need-fill-requires
 fill-requires c κs =
-    let q = c .before .before in
-    let g = q .before .before .before .before .before .before .before in
-    let i = q .kind-of .ensures in
-    (list-whole (g .args .reading) (g .args .s .now) (g .args .at) (g .args .start) (g .pre .0) (q .before .if1 .left) i, list-room (g .args .reading) (g .args .s .now) (g .args .at) (g .args .start) (g .pre .0) (q .before .if1 .left) i (g .pre .1 .1))
+    let k = c .before .before in
+    let g = k .before .before .before .before .before .before in
+    (list-whole (g .args .reading) (g .args .s .now) (g .args .at) (g .args .first) (g .args .start) (g .pre .0) (k .if1 .left), list-room (g .args .reading) (g .args .s .now) (g .args .at) (g .args .first) (g .args .start) (g .pre .0) (k .if1 .left) (g .pre .1 .1))
 
-cast-put-words : tie.Need-cast-put-words
-cast-put-words c = search needs
-
-put-words-requires : tie.Need-put-words-requires
-put-words-requires c κs = search needs
+put-piece-requires-2 : tie.Need-put-piece-requires-2
+put-piece-requires-2 c κs = search needs
 
 same-length-2 : tie.Need-same-length-2
 same-length-2 c = search needs
@@ -79,34 +56,29 @@ same-length-3 c = search needs
 same-length-4 : tie.Need-same-length-4
 same-length-4 c = search needs
 
-returns-3 : tie.Need-returns-3
-returns-3 c =
+returns-2 : tie.Need-returns-2
+returns-2 c =
     let u = c .before .before in
     let f = u .before .before .before .before .before .before in
-    let q = f .before .before .before in
-    let g = q .before .before .before .before .before .before .before in
-    list-post (g .args .reading) (g .args .s .now) (g .args .at) (g .args .start) (g .pre .0) (q .before .if1 .left) (q .kind-of .ensures) (g .args .words .now) (g .args .values .now) (g .args .octets .now) (g .args .word)
-    (f .fill .ensures .1 .1) (u .put-words .ensures) (f .fill .ensures .0) (f .fill .ensures .1 .0)
+    let k = f .before .before .before in
+    let g = k .before .before .before .before .before .before in
+    list-post (g .args .reading) (g .args .s .now) (g .args .at) (g .args .first) (g .args .start) (g .pre .0) (k .if1 .left) (g .args .words .now) (g .args .values .now) (g .args .octets .now) (g .args .word)
+    (f .fill .ensures .1 .1) (u .put-piece2 .ensures) (f .fill .ensures .0) (f .fill .ensures .1 .0)
 
 pub put-part-spec : {M : Type 1} → statement M
 put-part-spec =
     tie.close
     (tie.spec
-    shared-slice-read-kind
+    shared-slice-read-tag
     add-from
-    prefix-at-requires
-    enum-known-prefix
-    prefix-of-requires
-    put-component-requires
+    prefix-in-requires
+    put-piece-requires
     same-length
     returns
-    enum-told
-    returns-2
-    kind-of-requires
+    add-fill
     fill-requires
-    cast-put-words
-    put-words-requires
+    put-piece-requires-2
     same-length-2
     same-length-3
     same-length-4
-    returns-3)
+    returns-2)

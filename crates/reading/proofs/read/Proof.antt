@@ -1,7 +1,7 @@
 -- `reading::read` meets its contract: the family names no reading, or the reading that it names goes.
 use mathlib.Core.Path.{sym, _∙_, ap}
 use Rattle.choices.specs.Choices.{toldStandard}
-use Rattle.reading.proofs.Intos.{bad-family, of-family}
+use Rattle.reading.proofs.Ways.{bad-family, of-family}
 use borrow.Author.Needs.{needs}
 use Rattle.reading.proofs.read.Statement.{statement}
 use Rattle.reading.proofs.read.Tie as tie

@@ -1,39 +1,62 @@
--- `reading::read_into` meets its contract: the input is too long, has no length, or goes by its body.
-use mathlib.Core.Path.{sym, _∙_, ap}
-use Rattle.octets.specs.Lengths.{toldRead}
-use Rattle.reading.proofs.Intos.{length-in, over-long, no-length, with-length}
+-- `reading::read_into` meets its contract: what the first pass answers, then room, then the second pass (`Ways.antt`).
+use mathlib.Core.Path.{sym, ap, _∙_}
+use Rattle.reading.specs.Readings.{toldInto}
+use Rattle.reading.proofs.Ways.{test-refused, tested, no-words, no-values, no-octets, room, all-stored}
 use borrow.Author.Needs.{needs}
 use Rattle.reading.proofs.read_into.Statement.{statement}
 use Rattle.reading.proofs.read_into.Tie as tie
 use Rattle.reading.proofs.read_into.Reads as reads
 use Rattle.reading.proofs.read_into.Lts as lts
-use Rattle.octets.proofs.Cursor.parse_length.Reads as parse-length-reads
-use Rattle.reading.proofs.read_body.Reads as read-body-reads
-use Rattle.reading.proofs.too_long.Reads as too-long-reads
+use Rattle.reading.proofs.store.Reads as store-reads
+use Rattle.reading.proofs.test.Reads as test-reads
 
-too-long-requires : tie.Need-too-long-requires
-too-long-requires c κs = search needs
+test-requires : tie.Need-test-requires
+test-requires c κs = search needs
+
+enum-known-tested : tie.Need-enum-known-tested
+enum-known-tested c = search needs
+
+enum-known-tested-2 : tie.Need-enum-known-tested-2
+enum-known-tested-2 c = search needs
 
 returns : tie.Need-returns
 returns c =
-    let t = c .before in
-    let g = t .before .before .before .before .before in
-    over-long (g .args .reading) (g .args .input .now) (g .args .words .now) (g .args .values .now) (g .args .octets .now) (sym (t .too-long .ensures) ∙ c .if1 .taken)
+    let t = c .before .before in
+    let w = t .before .before in
+    let g = w .before .before .before .before .before in
+    let q = sym (ap toldInto (t .tested2 .given .1)) ∙ w .test .ensures in
+    no-words (g .args .reading) (g .args .input .now) (g .args .words .now) (g .args .values .now) (g .args .octets .now) q (c .if1 .taken)
 
-parse-length-requires : tie.Need-parse-length-requires
-parse-length-requires c κs = search needs
+returns-2 : tie.Need-returns-2
+returns-2 c =
+    let t = c .before .before .before in
+    let w = t .before .before in
+    let g = w .before .before .before .before .before in
+    let q = sym (ap toldInto (t .tested2 .given .1)) ∙ w .test .ensures in
+    no-values (g .args .reading) (g .args .input .now) (g .args .words .now) (g .args .values .now) (g .args .octets .now) q (c .before .if1 .left) (c .if2 .taken)
 
-enum-known-stated : tie.Need-enum-known-stated
-enum-known-stated c = search needs
+returns-3 : tie.Need-returns-3
+returns-3 c =
+    let t = c .before .before .before .before in
+    let w = t .before .before in
+    let g = w .before .before .before .before .before in
+    let q = sym (ap toldInto (t .tested2 .given .1)) ∙ w .test .ensures in
+    no-octets (g .args .reading) (g .args .input .now) (g .args .words .now) (g .args .values .now) (g .args .octets .now) q (c .before .before .if1 .left) (c .if3 .taken)
 
-read-body-requires : tie.Need-read-body-requires
-read-body-requires c κs =
-    let k = c .before .before .before .before in
-    let w = k .before .before in
-    length-in _ (sym (w .parse-length .ensures) ∙ ap toldRead (k .stated .given .1))
+store-requires : tie.Need-store-requires
+store-requires c κs =
+    let e = c .before .before .before in
+    let t = e .before .before .before .before in
+    let w = t .before .before in
+    let g = w .before .before .before .before .before in
+    let q = sym (ap toldInto (t .tested2 .given .1)) ∙ w .test .ensures in
+    (tested (g .args .reading) (g .args .input .now) (g .args .words .now) (g .args .values .now) (g .args .octets .now) q, room (g .args .reading) (g .args .input .now) (g .args .words .now) (g .args .values .now) (g .args .octets .now) q (e .before .before .if1 .left) (e .before .if2 .left) (e .if3 .left))
 
-enum-known-fault : tie.Need-enum-known-fault
-enum-known-fault c = search needs
+returns-4 : tie.Need-returns-4
+returns-4 c =
+    let w = c .before .before .before in
+    let g = w .before .before .before .before .before in
+    test-refused (g .args .reading) (g .args .input .now) (g .args .words .now) (g .args .values .now) (g .args .octets .now) (sym (ap toldInto (c .before .tested .given .1)) ∙ w .test .ensures)
 
 same-length : tie.Need-same-length
 same-length c = search needs
@@ -44,34 +67,29 @@ same-length-2 c = search needs
 same-length-3 : tie.Need-same-length-3
 same-length-3 c = search needs
 
-returns-2 : tie.Need-returns-2
-returns-2 c =
-    let u = c .before .before .before .before .before .before in
-    let k = u .before .before .before .before .before in
-    let w = k .before .before in
-    let t = w .before .before in
-    let g = t .before .before .before .before .before in
-    with-length (g .args .reading) (g .args .input .now) (g .args .words .now) (g .args .values .now) (g .args .octets .now) (sym (t .too-long .ensures) ∙ w .before .if1 .left) (sym (ap toldRead (k .stated .given .1)) ∙ w .parse-length .ensures) (u .read-body .ensures)
-
-returns-3 : tie.Need-returns-3
-returns-3 c =
-    let w = c .before .before .before in
-    let t = w .before .before in
-    let g = t .before .before .before .before .before in
-    no-length (g .args .reading) (g .args .input .now) (g .args .words .now) (g .args .values .now) (g .args .octets .now) (sym (t .too-long .ensures) ∙ w .before .if1 .left) (sym (ap toldRead (c .before .fault .given .1)) ∙ w .parse-length .ensures)
+returns-5 : tie.Need-returns-5
+returns-5 c =
+    let p = c .before .before .before .before .before .before in
+    let e = p .before .before .before .before in
+    let t = e .before .before .before .before in
+    let w = t .before .before in
+    let g = w .before .before .before .before .before in
+    let q = sym (ap toldInto (t .tested2 .given .1)) ∙ w .test .ensures in
+    all-stored (g .args .reading) (g .args .input .now) (g .args .words .now) (g .args .values .now) (g .args .octets .now) q (e .before .before .if1 .left) (e .before .if2 .left) (e .if3 .left) (p .store .ensures .0) (p .store .ensures .1 .0) (p .store .ensures .1 .1)
 
 pub read-into-spec : {M : Type 1} → statement M
 read-into-spec =
     tie.close
     (tie.spec
-    too-long-requires
+    test-requires
+    enum-known-tested
+    enum-known-tested-2
     returns
-    parse-length-requires
-    enum-known-stated
-    read-body-requires
-    enum-known-fault
+    returns-2
+    returns-3
+    store-requires
+    returns-4
     same-length
     same-length-2
     same-length-3
-    returns-2
-    returns-3)
+    returns-5)

@@ -1,13 +1,13 @@
--- What is behind a rule that was read: the length and the walk that gave it. And its words are those of a rule, so that what is made of them by value
--- is the rule.
+-- What is behind a rule that was read: the length and the walk that gave it; and that it is a rule, whose words give it back.
 use Prim.Native.Nat.{ℕ, zero, suc, _+_, _-_, _≤_, _<_}
-use mathlib.Core.Path.{_≡_, refl, ap, subst}
+use mathlib.Core.Path.{_≡_, refl, sym, ap, _∙_, subst}
+use mathlib.Core.Bool.{true, false}
 use mathlib.Core.List.{List, [], _∷_}
 use native.Mathlib.Omega.{arith}
-use borrow.Author.Tests.{ltb-false}
-use lib.Dec.{ltb}
-use lib.ListN.{length, take, drop, replicate}
-use lib.Seq.{sets, getD-drop}
+use borrow.Author.Tests.{ltb-false, leb-false}
+use lib.Dec.{ltb, leb}
+use lib.ListN.{length, getD, take, drop}
+use lib.Seq.{getD-drop}
 use Rattle.ground.proofs.Answers.{never}
 use Rattle.ground.specs.Answers.{Answer, accepts, declines}
 use Rattle.ground.proofs.Cases.{by-test}
@@ -16,12 +16,11 @@ use Rattle.octets.specs.Lengths.{lengthAt}
 use Rattle.choices.specs.declared.Reading.{Reading}
 use Rattle.choices.specs.declared.Reading.the-variants.{Plain, Ipv4, Ipv6}
 use Rattle.choices.specs.Choices.{boundOf, familyOf}
-use Rattle.rules.specs.Components.{holdsOne}
-use Rattle.stored.specs.Stored.{allWords, tailWords, ruleWords, storedRule, ruleAt, ruleIn}
-use Rattle.stored.proofs.Inverse.{put-read}
 use Rattle.prefixes.proofs.Accepted.{Octets}
 use Rattle.walk.specs.Walks.{Body, walkAt}
-use Rattle.reading.specs.Readings.{ReadRule, readRule, ruled, part, statedAt, afterLength, tooLong, readAt, shorter, roomed, readInto, wordsOf, nlriOf}
+use Rattle.reading.specs.Readings.{ReadRule, readRule, ruled, part, statedAt, afterLength, tooLong, readAt, shorter, roomed, readInto}
+use Rattle.reading.specs.Parts.{isBody, bodyIn, bodyAt, isRead, ruleIn, readOf, bodyStart}
+use Rattle.reading.proofs.Ways.{after-of, bound-in}
 use Rattle.reading.proofs.Bodies.{Rule, body-rule}
 
 same : {x y : ReadRule} → accepts x ≡ accepts y → x ≡ y
@@ -73,41 +72,68 @@ octets-take (suc k) [] h i = omega arith
 octets-take (suc k) (x ∷ s) h zero = h 0
 octets-take (suc k) (x ∷ s) h (suc i) = octets-take k s (λ j. h (suc j)) i
 
-octets-part : (s : List ℕ) (from to : ℕ) → Octets s → Octets (part s from to)
+pub octets-part : (s : List ℕ) (from to : ℕ) → Octets s → Octets (part s from to)
 octets-part s from to h = octets-take (to - from) (drop from s) (λ i. rw getD-drop (h (from + i)))
 
 -- what was read is a rule
-pub read-rule : (r : Reading) (s : List ℕ) (rule : ReadRule) → Octets s → readAt r s ≡ accepts rule → Rule 0 (rule .components)
+pub read-rule : (r : Reading) (s : List ℕ) (rule : ReadRule) → Octets s → readAt r s ≡ accepts rule → Rule 0 (rule .pieces)
 read-rule r s rule o e =
     let w = read-walked r s rule e in
     let a = w .stated .next .at in
     let b = boundOf r (length s) (a + w .stated .size) in
-    subst (λ (x : ReadRule). Rule 0 (x .components)) (w .is) (body-rule r (part s a b) (w .stated .size) (w .given) (octets-part s a b o) (w .walked))
+    subst (λ (x : ReadRule). Rule 0 (x .pieces)) (w .is) (body-rule r (part s a b) (w .stated .size) (w .given) (octets-part s a b o) (w .walked))
 
 pub read-family : (r : Reading) (s : List ℕ) (rule : ReadRule) → readAt r s ≡ accepts rule → familyOf r ≡ rule .family
 read-family r s rule e = ap (λ (x : ReadRule). x .family) (read-walked r s rule e .is)
 
-family-octet : (r : Reading) → familyOf r < 256
+pub family-octet : (r : Reading) → familyOf r < 256
 family-octet Plain = omega arith
 family-octet Ipv4 = omega arith
 family-octet Ipv6 = omega arith
 
--- the words of nothing, and those of a rule in their place
-abbrev blank : List ℕ
-blank = replicate 64 0
+-- where a body starts, by the first octet of the length
+pub starts : (s : List ℕ) {l : Length} → lengthAt s 0 ≡ accepts l → (0 < length s) × (l .next .at ≡ bodyStart (getD s 0 0))
+unfolding lengthAt
+starts s {l} e =
+    by-test (leb (length s) 0)
+    (λ t. never (rw t at e))
+    (λ f. by-test (ltb (getD s 0 0) 240)
+    (λ t. let n = after-of (rw (f, t) at e) in let g = leb-false (length s) 0 f in (omega arith, rw t (sym n)))
+    (λ k. by-test (leb (length s) 1)
+    (λ t. never (rw (f, k, t) at e))
+    (λ g. let n = after-of (rw (f, k, g) at e) in let i = leb-false (length s) 0 f in (omega arith, rw k (sym n)))))
 
-empty-back : ruleAt blank 0 ≡ accepts (storedRule [] 0 0)
-unfolding ruleWords tailWords allWords holdsOne
-empty-back = put-read [] 0 0 (omega arith) tt refl (omega arith) blank 0 (omega arith)
+-- what the second pass goes by, once an input was tested
+pub record Tested (r : Reading) (s : List ℕ) (used : ℕ) : Type 0 where
+  pub some : 0 < length s
+  pub start : bodyStart (getD s 0 0) ≤ used
+  pub within : (bodyStart (getD s 0 0) ≤ boundOf r (length s) used) × (boundOf r (length s) used ≤ length s)
+  pub walked : isBody (walkAt r (part s (bodyStart (getD s 0 0)) (boundOf r (length s) used)) (used - bodyStart (getD s 0 0))) ≡ true
+  pub is : readOf r s ≡ readRule (bodyAt r (part s (bodyStart (getD s 0 0)) (boundOf r (length s) used)) (used - bodyStart (getD s 0 0))) (familyOf r) used
 
-by-answer : (r : Reading) (s : List ℕ) (w v o : ℕ) → Octets s → (a : Answer ReadRule) → readInto r s w v o ≡ a → ruleIn (ruleAt (sets blank 0 (wordsOf a)) 0) ≡ nlriOf a
-by-answer r s w v o h (accepts rule) e =
-    let q = into-read r s w v o rule e in
-    let g = read-rule r s rule h q in
-    let f = read-family r s rule q in
-    let l = family-octet r in
-    ap ruleIn (put-read (rule .components) (rule .family) 0 (omega (arith, g .few)) (g .fit) (g .full) (omega arith) blank 0 (omega arith))
-by-answer r s w v o h (declines f) e = ap ruleIn empty-back
+read-in : (a : Answer ReadRule) → isRead a ≡ true → a ≡ accepts (ruleIn a)
+read-in (accepts x) e = refl
+read-in (declines f) e = let z : _≡_ {A = ℕ} 0 1 = cc in absurd (omega arith)
 
-pub rule-back : (r : Reading) (s : List ℕ) (w v o : ℕ) → Octets s → ruleIn (ruleAt (sets blank 0 (wordsOf (readInto r s w v o))) 0) ≡ nlriOf (readInto r s w v o)
-rule-back r s w v o h = by-answer r s w v o h (readInto r s w v o) refl
+pub tested-read : (r : Reading) (s : List ℕ) {used : ℕ} → isRead (readAt r s) ≡ true → used ≡ readOf r s .used → Tested r s used
+tested-read r s {used} h u =
+    let w = read-walked r s (readOf r s) (read-in (readAt r s) h) in
+    let a = bodyStart (getD s 0 0) in
+    let b = w .stated .next .at in
+    let k = starts s (w .first) in
+    let e : b ≡ a = k .1 in
+    let f : b + w .stated .size ≡ used = ap (λ (x : ReadRule). x .used) (w .is) ∙ sym u in
+    let g : w .stated .size ≡ used - a = omega arith in
+    let n = w .within in
+    let q : walkAt r (part s a (boundOf r (length s) used)) (used - a) ≡ accepts (w .given) =
+    subst (λ (x : ℕ). walkAt r (part s x (boundOf r (length s) used)) (used - a) ≡ accepts (w .given)) e
+    (subst (λ (y : ℕ). walkAt r (part s b (boundOf r (length s) y)) (used - a) ≡ accepts (w .given)) f
+    (subst (λ (z : ℕ). walkAt r (part s b (boundOf r (length s) (b + w .stated .size))) z ≡ accepts (w .given)) g (w .walked))) in
+    let i = subst (λ (y : ℕ). (a ≤ boundOf r (length s) y) × (boundOf r (length s) y ≤ length s)) (let j : a + (used - a) ≡ used = omega arith in j) (bound-in r (length s) a (used - a) (omega arith)) in
+    record {
+      some = k .0;
+      start = omega arith;
+      within = i;
+      walked = ap isBody q;
+      is = sym (w .is) ∙ ap (readRule (w .given) (familyOf r)) f ∙ ap (λ (x : Answer Body). readRule (bodyIn x) (familyOf r) used) (sym q);
+    }
