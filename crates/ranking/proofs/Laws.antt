@@ -22,9 +22,9 @@ use Rattle.ranking.specs.declared.Order.the-variants.{Precedes, Equal, F
 use Rattle.ranking.specs.declared.Front.{Front}
 use Rattle.ranking.specs.declared.Content.{Content}
 use Rattle.ranking.specs.declared.Content.the-variants.{Prefix, List as ListAt}
-use Rattle.ranking.specs.Ranks.{isBefore, contentOf, lower, thenBy, inTurn, rankOctets, firstOf, frontOf, rankBits, rankFront, rankPrefix, Compared, prefixed, listed, Piece, rankContent, rankPiece, rank, piecesOf, rankOf}
+use Rattle.ranking.specs.Ranks.{isBefore, contentOf, lower, thenBy, inTurn, rankOctets, leadingBits, frontOf, rankBits, rankFront, rankPrefix, Compared, prefixed, listed, Piece, rankContent, rankPiece, rank, piecesOf, rankOf}
 use Rattle.ranking.proofs.Orders.{never, way, low-below, low-equal, low-above, low-suc, equal-same, then-assoc, then-first, then-second, flip, Ordered, by-key}
-use Rattle.ranking.proofs.Leading.{first-ipv4}
+use Rattle.ranking.proofs.LeadingBits.{first-ipv4}
 use Rattle.ranking.proofs.Keys.{rank-ordered}
 
 -- ---- what every order has
@@ -130,7 +130,7 @@ worked = (refl, refl, refl)
 
 abbrev pub Alike : Compared → Compared → Type 0
 Alike (prefixed p) (prefixed q) =
-    (frontOf p .offset ≡ frontOf q .offset) × (frontOf p .length ≡ frontOf q .length) × (firstOf (frontOf p .length) (num (frontOf p .address)) ≡ firstOf (frontOf q .length) (num (frontOf q .address)))
+    (frontOf p .offset ≡ frontOf q .offset) × (frontOf p .length ≡ frontOf q .length) × (leadingBits (frontOf p .length) (num (frontOf p .address)) ≡ leadingBits (frontOf q .length) (num (frontOf q .address)))
 Alike (prefixed p) (listed ys) = ⊥
 Alike (listed xs) (prefixed q) = ⊥
 Alike (listed xs) (listed ys) = xs ≡ ys
@@ -155,19 +155,19 @@ octets-same [] = refl
 octets-same (x ∷ xs) = rw (low-equal x x refl) (octets-same xs)
 
 alike-prefix : (f g : Front) → rankFront f g ≡ Equal
-    → (f .offset ≡ g .offset) × (f .length ≡ g .length) × (firstOf (f .length) (num (f .address)) ≡ firstOf (g .length) (num (g .address)))
+    → (f .offset ≡ g .offset) × (f .length ≡ g .length) × (leadingBits (f .length) (num (f .address)) ≡ leadingBits (g .length) (num (g .address)))
 unfolding rankFront rankBits
 alike-prefix f g e =
     let n = min (f .length) (g .length) in
     let o = lower (f .offset) (g .offset) in
-    let b = lower (firstOf n (num (f .address))) (firstOf n (num (g .address))) in
+    let b = lower (leadingBits n (num (f .address))) (leadingBits n (num (g .address))) in
     let l = lower (g .length) (f .length) in
     let t = then-second o (thenBy b l) e in
     let len : f .length ≡ g .length = sym (equal-same (g .length) (f .length) (then-second b l t)) in
     let m : n ≡ f .length = min-eq-left (omega arith) in (
       equal-same (f .offset) (g .offset) (then-first o (thenBy b l) e),
       len,
-      sym (ap (λ (k : ℕ). firstOf k (num (f .address))) m) ∙ equal-same _ _ (then-first b l t) ∙ ap (λ (k : ℕ). firstOf k (num (g .address))) (m ∙ len),
+      sym (ap (λ (k : ℕ). leadingBits k (num (f .address))) m) ∙ equal-same _ _ (then-first b l t) ∙ ap (λ (k : ℕ). leadingBits k (num (g .address))) (m ∙ len),
     )
 
 alike-content : (c d : Compared) → rankContent c d ≡ Equal → Alike c d
@@ -192,11 +192,11 @@ unfolding rankOf
 equal-rules a b e = equal-alike (piecesOf (a .values) (a .octets) (a .rule)) (piecesOf (b .values) (b .octets) (b .rule)) e
 
 -- and the other way
-prefix-alike : (f g : Front) → f .offset ≡ g .offset → f .length ≡ g .length → firstOf (f .length) (num (f .address)) ≡ firstOf (g .length) (num (g .address)) → rankFront f g ≡ Equal
+prefix-alike : (f g : Front) → f .offset ≡ g .offset → f .length ≡ g .length → leadingBits (f .length) (num (f .address)) ≡ leadingBits (g .length) (num (g .address)) → rankFront f g ≡ Equal
 unfolding rankFront rankBits
 prefix-alike f g o l b =
     let m : min (f .length) (g .length) ≡ f .length = min-eq-left (omega arith) in
-    let b′ : firstOf (f .length) (num (f .address)) ≡ firstOf (f .length) (num (g .address)) = b ∙ ap (λ (k : ℕ). firstOf k (num (g .address))) (sym l) in
+    let b′ : leadingBits (f .length) (num (f .address)) ≡ leadingBits (f .length) (num (g .address)) = b ∙ ap (λ (k : ℕ). leadingBits k (num (g .address))) (sym l) in
     rw (m, low-equal (f .offset) (g .offset) o, low-equal _ _ b′, low-equal (g .length) (f .length) (sym l))
 
 content-alike : (c d : Compared) → Alike c d → rankContent c d ≡ Equal

@@ -52,8 +52,8 @@ pub record Shares (k a b r : ℕ) : Type 0 where
   pub only : (n : ℕ) → n ≤ k → a / 2 ^ (k - n) ≡ b / 2 ^ (k - n) → n ≤ r
 
 -- the first n of 128 bits
-abbrev pub firstOf : ℕ → ℕ → ℕ
-firstOf n a = a / 2 ^ (128 - n)
+abbrev pub leadingBits : ℕ → ℕ → ℕ
+leadingBits n a = a / 2 ^ (128 - n)
 
 -- bits count from the front of the address, so that an IPv4 address is the first 32 of the 128; a form without an offset has offset 0
 abbrev pub front : ℕ → ℕ → ℕ → ℕ → Front
@@ -67,7 +67,7 @@ frontOf (Ipv6Offset len off h l) = front off len h l
 
 -- "Prefixes: IPv6 lower offset precedes; then the bits up to the shorter length, lower precedes; then the longer length."
 unfoldable pub rankBits : ℕ → Front → Front → Order
-rankBits n f g = lower (firstOf n (num (f .address))) (firstOf n (num (g .address)))
+rankBits n f g = lower (leadingBits n (num (f .address))) (leadingBits n (num (g .address)))
 
 unfoldable pub rankFront : Front → Front → Order
 rankFront f g = thenBy (lower (f .offset) (g .offset)) (thenBy (rankBits (min (f .length) (g .length)) f g) (lower (g .length) (f .length)))

@@ -11,7 +11,7 @@ ghost use lib.ListN.{length};
 ghost use Rattle.wide.specs.Numbers.{num};
 ghost use Rattle.operators.specs.Ops.{op, opsIn, listOctets};
 ghost use Rattle.stored.specs.Stored.{storedAt, partAt};
-ghost use Rattle.ranking.specs.Ranks.{Shares, lower, thenBy, firstOf, front, frontOf, rankPrefix, rankOctets, cutTo, rankOp, contentOf, spanOctets, comparedOf, rankContent, Within, Inside, rankPiece, pieceOf, componentIn, Rankable, rankOf};
+ghost use Rattle.ranking.specs.Ranks.{Shares, lower, thenBy, leadingBits, front, frontOf, rankPrefix, rankOctets, cutTo, rankOp, contentOf, spanOctets, comparedOf, rankContent, Within, Inside, rankPiece, pieceOf, componentIn, Rankable, rankOf};
 use operators::Kind;
 use rules::FlowSpecComponent;
 use rules::NetworkPrefix;
@@ -82,7 +82,7 @@ pub fn shared_bits(a: Wide, b: Wide) -> u32
 
 // The first n bits of two addresses: where they are not shared, the addresses are in the order of these bits.
 pub fn compare_bits(a: Wide, b: Wide, n: usize) -> Order
-    ensures { λ r. ⌜ r ≡ lower (firstOf n (num a)) (firstOf n (num b)) ⌝ }
+    ensures { λ r. ⌜ r ≡ lower (leadingBits n (num a)) (leadingBits n (num b)) ⌝ }
 {
     if n <= shared_bits(a, b) as usize {
         return Order::Equal;
@@ -163,7 +163,7 @@ fn cut(octet: u8, value: u64) -> u64
 }
 
 // Equal octets name equal widths, so that the values are in the order of the octets that write them.
-pub fn compare_operators(kind: Kind, octet: u8, value: u64, octet2: u8, value2: u64) -> Order
+fn compare_written(kind: Kind, octet: u8, value: u64, octet2: u8, value2: u64) -> Order
     ensures { λ r. ⌜ r ≡ rankOp kind (op octet value) (op octet2 value2) ⌝ }
 {
     let octets = compare_numbers(
@@ -174,6 +174,16 @@ pub fn compare_operators(kind: Kind, octet: u8, value: u64, octet2: u8, value2: 
         octets,
         compare_numbers(cut(octet, value), cut(octet2, value2)),
     )
+}
+
+// Operators that are the same as they stand are equal, and most that are compared are: they are passed with nothing cleared or cut.
+pub fn compare_operators(kind: Kind, octet: u8, value: u64, octet2: u8, value2: u64) -> Order
+    ensures { λ r. ⌜ r ≡ rankOp kind (op octet value) (op octet2 value2) ⌝ }
+{
+    if (octet == octet2) & (value == value2) {
+        return Order::Equal;
+    }
+    compare_written(kind, octet, value, octet2, value2)
 }
 
 // The lists at so many places of the lent lists. No entry point.

@@ -3,7 +3,7 @@ use mathlib.Core.Path.{sym, subst}
 use lib.ListN.{length}
 use Rattle.ranking.specs.declared.Content.{Content}
 use Rattle.ranking.specs.Ranks.{Inside}
-use Rattle.ranking.proofs.Rules.{types-below, types-above, types-equal}
+use Rattle.ranking.proofs.ComponentsInTurn.{types-below, types-above, types-equal}
 use borrow.Author.Needs.{needs}
 use Rattle.ranking.proofs.compare_components.Statement.{statement}
 use Rattle.ranking.proofs.compare_components.Tie as tie

@@ -3,7 +3,7 @@ use mathlib.Core.Path.{_∙_, subst}
 use lib.ListN.{length}
 use Rattle.ranking.specs.declared.Content.{Content}
 use Rattle.ranking.specs.Ranks.{Inside}
-use Rattle.ranking.proofs.Rules.{contents}
+use Rattle.ranking.proofs.ComponentsInTurn.{contents}
 use borrow.Author.Needs.{needs}
 use Rattle.ranking.proofs.compare_contents.Statement.{statement}
 use Rattle.ranking.proofs.compare_contents.Tie as tie

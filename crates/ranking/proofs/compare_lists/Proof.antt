@@ -6,8 +6,8 @@ use native.Mathlib.Omega.{arith}
 use native.Mathlib.Nat.{min-le-left, min-le-right}
 use Rattle.operators.specs.Ops.{opsIn, listOctets}
 use Rattle.ranking.specs.Ranks.{rankOctets, rankOp}
-use Rattle.ranking.proofs.Turns.{rest}
-use Rattle.ranking.proofs.Octets.{ops-first, ops-end, ops-turn}
+use Rattle.ranking.proofs.LeftInTurn.{rest}
+use Rattle.ranking.proofs.OperatorsInTurn.{ops-first, ops-end, ops-turn}
 use Rattle.ranking.proofs.compare_lists.Statement.{statement}
 use Rattle.ranking.proofs.compare_lists.Tie as tie
 

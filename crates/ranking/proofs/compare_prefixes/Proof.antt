@@ -2,7 +2,7 @@
 use mathlib.Core.Path.{ap, ap₂, _∙_}
 use Prim.Native.Nat.{ℕ}
 use Rattle.ranking.specs.declared.Front.{Front}
-use Rattle.ranking.specs.Ranks.{lower, thenBy, firstOf, rankBits, rankFront}
+use Rattle.ranking.specs.Ranks.{lower, thenBy, leadingBits, rankBits, rankFront}
 use Rattle.wide.specs.Numbers.{num}
 use borrow.Author.Needs.{needs}
 use Rattle.ranking.proofs.compare_prefixes.Statement.{statement}
@@ -62,7 +62,7 @@ returns c =
     let f = g .before in
     c .then-by2 .ensures
     ∙ ap₂ thenBy (o .compare-numbers .ensures)
-    (t .then-by .ensures ∙ ap₂ thenBy (b .compare-bits .ensures ∙ ap (λ (n : ℕ). lower (firstOf n (num (f .front-of .result .address))) (firstOf n (num (g .front-of2 .result .address)))) (s .shorter .ensures)) (l .compare-numbers2 .ensures))
+    (t .then-by .ensures ∙ ap₂ thenBy (b .compare-bits .ensures ∙ ap (λ (n : ℕ). lower (leadingBits n (num (f .front-of .result .address))) (leadingBits n (num (g .front-of2 .result .address)))) (s .shorter .ensures)) (l .compare-numbers2 .ensures))
     ∙ ap₂ (λ (x y : Front). rankFront x y) (f .front-of .ensures) (g .front-of2 .ensures)
 
 pub compare-prefixes-spec : {M : Type 1} → statement M

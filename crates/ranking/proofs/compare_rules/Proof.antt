@@ -7,8 +7,8 @@ use native.Mathlib.Nat.{min-le-left, min-le-right}
 use lib.ListN.{getD}
 use Rattle.stored.specs.Stored.{storedAt}
 use Rattle.ranking.specs.Ranks.{piecesOf, rankPiece, rankOf}
-use Rattle.ranking.proofs.Turns.{rest}
-use Rattle.ranking.proofs.Rules.{few, inside-here, rules-first, rules-end, rules-turn}
+use Rattle.ranking.proofs.LeftInTurn.{rest}
+use Rattle.ranking.proofs.ComponentsInTurn.{few, inside-here, rules-first, rules-end, rules-turn}
 use Rattle.ranking.proofs.compare_rules.Statement.{statement}
 use Rattle.ranking.proofs.compare_rules.Tie as tie
 

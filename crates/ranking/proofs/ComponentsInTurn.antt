@@ -18,7 +18,7 @@ use Rattle.ranking.specs.declared.Order.the-variants.{Precedes, Follows}
 use Rattle.ranking.specs.declared.Content.{Content}
 use Rattle.ranking.specs.Ranks.{lower, thenBy, comparedOf, rankContent, Piece, pieceOf, piecesOf, rankPiece, rankOf, contentOf, Inside, AllInside, Rankable, componentIn}
 use Rattle.ranking.proofs.Orders.{low-below, low-equal, low-above}
-use Rattle.ranking.proofs.Turns.{rest, rest-first, rest-end, rest-turn}
+use Rattle.ranking.proofs.LeftInTurn.{rest, rest-first, rest-end, rest-turn}
 
 -- ---- two components
 

@@ -13,9 +13,10 @@ use Rattle.operators.specs.declared.Kind.{Kind}
 use Rattle.operators.specs.declared.Kind.the-variants.{Numeric, Bitmask}
 use Rattle.operators.specs.Ops.{clearedIn, Op, op, opsIn, listOctets}
 use Rattle.ranking.specs.declared.Order.{Order}
+use Rattle.ranking.specs.declared.Order.the-variants.{Equal}
 use Rattle.ranking.specs.Ranks.{lower, thenBy, inTurn, rankOctets, cutTo, rankOp}
 use Rattle.ranking.proofs.Orders.{Way, below, equal, above, way, low-below, low-equal, low-above, then-assoc}
-use Rattle.ranking.proofs.Turns.{rest, rest-first, rest-end, rest-turn}
+use Rattle.ranking.proofs.LeftInTurn.{rest, rest-first, rest-end, rest-turn}
 
 -- two digits: the high ones decide, then the low ones
 module _ (c r s : ℕ) (hr : r < c) (hs : s < c) where
@@ -56,6 +57,12 @@ then-next x y o p f (equal e) = ap (λ (q : Order). thenBy (lower x y) q) (f e)
 then-next x y o p f (above h) = rw (low-above x y h)
 
 module _ (k : Kind) where
+  -- the same octet with the same value
+  pub same-operator : (octet value octet2 value2 : ℕ) → octet ≡ octet2 → value ≡ value2 → Equal ≡ rankOp k (op octet value) (op octet2 value2)
+  unfolding rankOp
+  same-operator octet value octet2 value2 e f =
+      sym (rw (e, f, low-equal (clearedIn k octet2) (clearedIn k octet2) refl, low-equal (cutTo octet2 value2) (cutTo octet2 value2) refl))
+
   -- equal octets name equal widths, so the values stand at equal places
   by-first : (a b : Op) (os ps : List Op)
       → rankOctets (listOctets k (a ∷ os)) (listOctets k (b ∷ ps)) ≡ thenBy (rankOp k a b) (rankOctets (listOctets k os) (listOctets k ps))
