@@ -1,126 +1,145 @@
--- The components of a stored rule as the walk over its words meets them.
+-- Two components by the pieces that their words are, and the components of two stored rules as the walk over their words meets them.
 use Prim.Native.Nat.{ℕ, zero, suc, _+_, _*_, _≤_, _<_, min}
-use mathlib.Core.Path.{_≡_, refl, sym, _∙_, ap, ap₂}
-use mathlib.Core.List.{List, [], _∷_, map}
-use native.Mathlib.Nat.{min-le-left, min-le-right}
+use mathlib.Core.Path.{_≡_, refl, sym, _∙_, ap, ap₂, subst}
+use mathlib.Core.Bool.{true}
+use mathlib.Core.List.{List, [], _∷_}
 use native.Mathlib.Omega.{arith}
-use lib.ListN.{length, getD}
-use Rattle.rules.specs.declared.FlowSpecComponent.{FlowSpecComponent}
-use Rattle.rules.specs.declared.FlowSpecComponent.the-variants.{Nothing}
-use Rattle.stored.specs.Stored.{partAt, componentsFrom, storedAt}
-use Rattle.stored.proofs.Words.{length-components, is-a-rule}
-use Rattle.stored.proofs.Inverse.{part-in}
+use lib.Dec.{eqb}
+use lib.ListN.{length, getD, drop, length-map, List·getD-map}
+use borrow.Author.Tests.{eqb-true}
+use Rattle.ground.proofs.Cases.{both}
 use Rattle.operators.specs.declared.Kind.{Kind}
-use Rattle.operators.specs.Ops.{kindOf}
-use Rattle.rules.specs.Components.{typeOf}
+use Rattle.operators.specs.Ops.{kindOf, Op, listOctets}
+use Rattle.rules.specs.declared.NetworkPrefix.{NetworkPrefix}
+use Rattle.stored.specs.declared.Piece.{Piece}
+use Rattle.stored.specs.declared.Piece.the-variants.{Prefix, Operators, NoRecord}
+use Rattle.stored.specs.Pieces.{isRecord, quad, sameQuad, quadAt, pieceOf, pieceAt}
+use Rattle.stored.specs.Stored.{countAt, firstAt, piecesFrom, storedAt}
+use Rattle.stored.proofs.Words.{length-pieces, piece-in, framed, rule-framed}
 use Rattle.ranking.specs.declared.Order.{Order}
-use Rattle.ranking.specs.declared.Order.the-variants.{Precedes, Follows}
-use Rattle.ranking.specs.declared.Content.{Content}
-use Rattle.ranking.specs.Ranks.{lower, thenBy, comparedOf, rankContent, Piece, pieceOf, piecesOf, rankPiece, rankOf, contentOf, Inside, AllInside, Rankable, componentIn}
-use Rattle.ranking.proofs.Orders.{low-below, low-equal, low-above}
-use Rattle.ranking.proofs.LeftInTurn.{rest, rest-first, rest-end, rest-turn}
+use Rattle.ranking.specs.declared.Order.the-variants.{Equal}
+use Rattle.ranking.specs.Ranks.{lower, thenBy, rankOctets, Content, prefixed, listed, Compared, compared, comparedOf, rankContent, rankCompared, rank, allCompared, rankOf, Inside, AllInside, Rankable}
+use Rattle.ranking.proofs.Orders.{equal-same, equals-itself}
+use Rattle.ranking.proofs.Keys.{compared-ordered}
+use Rattle.ranking.proofs.LeftInTurn.{Passed, none-passed, one-ended, next-tells}
 
 -- ---- two components
 
-module _ (values octets : List ℕ) (first : ℕ) (values2 octets2 : List ℕ) (first2 : ℕ) where
-  pub contents : (k : Kind) (a b x y : Content) → a ≡ x → b ≡ y
-      → rankContent (comparedOf values octets first k x) (comparedOf values2 octets2 first2 k y) ≡ rankContent (comparedOf values octets first k a) (comparedOf values2 octets2 first2 k b)
-  contents k a b x y e f = sym (ap₂ (λ (u v : Content). rankContent (comparedOf values octets first k u) (comparedOf values2 octets2 first2 k v)) e f)
+-- what the types tell, then the contents
+pub by-tags : (t u : ℕ) (c d : Content) (o : Order) → o ≡ lower t u → thenBy o (rankContent c d) ≡ rankCompared (compared t c) (compared u d)
+unfolding rankCompared
+by-tags t u c d o e = ap (λ (q : Order). thenBy q (rankContent c d)) e
 
-  module _ (a b : FlowSpecComponent) (x y : ℕ) (is-x : x ≡ typeOf a) (is-y : y ≡ typeOf b) where
-    rest-of : Order → Order
-    rest-of o = thenBy o (rankContent (pieceOf values octets first a .content) (pieceOf values2 octets2 first2 b .content))
+-- lists of one type, whose kind it tells
+pub by-lists : (t u : ℕ) (os ps : List Op) (k : Kind) → k ≡ kindOf t → Equal ≡ lower t u
+    → rankOctets (listOctets k os) (listOctets k ps) ≡ rankCompared (compared t (listed (listOctets (kindOf t) os))) (compared u (listed (listOctets (kindOf u) ps)))
+by-lists t u os ps k e z =
+    ap₂ (λ (a b : Kind). rankOctets (listOctets a os) (listOctets b ps)) e (e ∙ ap kindOf (equal-same t u (sym z)))
+    ∙ by-tags t u (listed (listOctets (kindOf t) os)) (listed (listOctets (kindOf u) ps)) Equal z
 
-    pub types-below : x < y → Precedes ≡ rankPiece (pieceOf values octets first a) (pieceOf values2 octets2 first2 b)
-    unfolding rankPiece rest-of
-    types-below h = sym (ap rest-of (sym (ap₂ lower is-x is-y) ∙ low-below x y h))
+same-piece : (ws : List ℕ) (at : ℕ) (ws2 : List ℕ) (at2 : ℕ) → sameQuad (quadAt ws at) (quadAt ws2 at2) ≡ true → pieceAt ws at ≡ pieceAt ws2 at2
+unfolding pieceAt
+same-piece ws at ws2 at2 e =
+    let a = both (eqb (getD ws at 0) (getD ws2 at2 0)) _ e in
+    let b = both (eqb (getD ws (at + 1) 0) (getD ws2 (at2 + 1) 0)) _ (a .1) in
+    let c = both (eqb (getD ws (at + 2) 0) (getD ws2 (at2 + 2) 0)) _ (b .1) in
+    let m : getD ws at 0 ≡ getD ws2 at2 0 = eqb-true _ _ (a .0) in
+    let x : getD ws (at + 1) 0 ≡ getD ws2 (at2 + 1) 0 = eqb-true _ _ (b .0) in
+    let y : getD ws (at + 2) 0 ≡ getD ws2 (at2 + 2) 0 = eqb-true _ _ (c .0) in
+    let z : getD ws (at + 3) 0 ≡ getD ws2 (at2 + 3) 0 = eqb-true _ _ (c .1) in
+    rw (m, x, y, z)
 
-    pub types-above : y < x → Follows ≡ rankPiece (pieceOf values octets first a) (pieceOf values2 octets2 first2 b)
-    unfolding rankPiece rest-of
-    types-above h = sym (ap rest-of (sym (ap₂ lower is-x is-y) ∙ low-above x y h))
+module _ (values octets : List ℕ) (first : ℕ) where
+  -- what is told of a piece
+  pub as-told : (a : Compared) (p q : Piece) → p ≡ q → rankCompared a (comparedOf values octets first q) ≡ rankCompared a (comparedOf values octets first p)
+  as-told a p q e = sym (ap (λ (x : Piece). rankCompared a (comparedOf values octets first x)) e)
 
-    pub types-equal : y ≤ x → x ≤ y → (o : Order) (k : Kind) (c d : Content) → k ≡ kindOf x → c ≡ contentOf a → d ≡ contentOf b
-        → o ≡ rankContent (comparedOf values octets first k c) (comparedOf values2 octets2 first2 k d)
-        → o ≡ rankPiece (pieceOf values octets first a) (pieceOf values2 octets2 first2 b)
-    unfolding rankPiece rest-of
-    types-equal h l o k c d is-k is-c is-d e =
-        let z : x ≡ y = omega arith in
-        let ka : k ≡ kindOf (typeOf a) = is-k ∙ ap kindOf is-x in
-        let kb : k ≡ kindOf (typeOf b) = is-k ∙ ap kindOf (z ∙ is-y) in
-        e
-        ∙ ap₂ (λ (u v : Content). rankContent (comparedOf values octets first k u) (comparedOf values2 octets2 first2 k v)) is-c is-d
-        ∙ ap₂ (λ (u v : Kind). rankContent (comparedOf values octets first u (contentOf a)) (comparedOf values2 octets2 first2 v (contentOf b))) ka kb
-        ∙ sym (ap rest-of (sym (ap₂ lower is-x is-y) ∙ low-equal x y z))
+  module _ (values2 octets2 : List ℕ) (first2 : ℕ) where
+    pub both-told : (a b p q : Piece) → p ≡ a → q ≡ b
+        → rankCompared (comparedOf values octets first a) (comparedOf values2 octets2 first2 b) ≡ rankCompared (comparedOf values octets first p) (comparedOf values2 octets2 first2 q)
+    both-told a b p q e f = sym (ap₂ (λ (x y : Piece). rankCompared (comparedOf values octets first x) (comparedOf values2 octets2 first2 y)) e f)
+
+    -- four words the same name the same piece, and a prefix is all in its words
+    pub same-prefix : (ws : List ℕ) (at : ℕ) (ws2 : List ℕ) (at2 : ℕ) (tag : ℕ) (prefix : NetworkPrefix) → pieceAt ws at ≡ Prefix tag prefix → sameQuad (quadAt ws at) (quadAt ws2 at2) ≡ true
+        → Equal ≡ rankCompared (comparedOf values octets first (pieceAt ws at)) (comparedOf values2 octets2 first2 (pieceAt ws2 at2))
+    same-prefix ws at ws2 at2 tag prefix e s =
+        sym (equals-itself rankCompared compared-ordered (compared tag (prefixed prefix)))
+        ∙ both-told (Prefix tag prefix) (Prefix tag prefix) (pieceAt ws at) (pieceAt ws2 at2) e (sym (same-piece ws at ws2 at2 s) ∙ e)
+
+-- a rule has no NoRecord
+pub inside-record : (v o first : ℕ) (p : Piece) → Inside v o first p → isRecord p ≡ true
+inside-record v o first (Prefix tag p) i = refl
+inside-record v o first (Operators tag start n) i = refl
+inside-record v o first NoRecord i = absurd i
+
+pub inside-told : (v o first : ℕ) (p q : Piece) → p ≡ q → Inside v o first p → Inside v o first q
+inside-told v o first p q e i = subst (λ (x : Piece). Inside v o first x) e i
 
 -- ---- the components of a rule
 
-pub length-map : {A B : Type 0} (f : A → B) (xs : List A) → length (map f xs) ≡ length xs
-length-map f [] = refl
-length-map f (x ∷ xs) = ap suc (length-map f xs)
+inside-in : (v o first : ℕ) (ps : List Piece) (i : ℕ) → i < length ps → AllInside v o first ps → Inside v o first (getD ps i NoRecord)
+inside-in v o first [] i h a = absurd (omega arith)
+inside-in v o first (p ∷ ps) zero h a = a .0
+inside-in v o first (p ∷ ps) (suc i) h a = inside-in v o first ps i (omega arith) (a .1)
 
-pub getD-map : {A B : Type 0} (f : A → B) (xs : List A) (i : ℕ) (d : A) → getD (map f xs) i (f d) ≡ f (getD xs i d)
-getD-map f [] i d = refl
-getD-map f (x ∷ xs) zero d = refl
-getD-map f (x ∷ xs) (suc i) d = getD-map f xs i d
+-- a rule that is walked: how many components it has, and where its operators begin
+pub record Walked (words : List ℕ) (at : ℕ) (values octets : List ℕ) (count first : ℕ) : Type 0 where
+  pub rankable : Rankable words at values octets
+  pub counted : count ≡ countAt words at
+  pub begins : first ≡ firstAt words at
 
-inside-at : (v o first : ℕ) (cs : List FlowSpecComponent) (i : ℕ) → i < length cs → AllInside v o first cs → Inside v o first (contentOf (getD cs i Nothing))
-inside-at v o first [] i h a = absurd (omega arith)
-inside-at v o first (c ∷ cs) zero h a = a .0
-inside-at v o first (c ∷ cs) (suc i) h a = inside-at v o first cs i (omega arith) (a .1)
+module _ {words : List ℕ} {at : ℕ} {values octets : List ℕ} {count first : ℕ} (w : Walked words at values octets count first) where
+  pub few : count ≤ 13
+  few = rw (w .counted) (framed words at (rule-framed words at (w .rankable .rule)) .few)
 
-module _ (words : List ℕ) (at : ℕ) (values octets : List ℕ) (r : Rankable words at values octets) where
-  pub few : getD words (at + 52) 0 ≤ 13
-  few = is-a-rule words at (r .rule) .few
+  length-compared : length (allCompared values octets (storedAt words at)) ≡ count
+  length-compared =
+      length-map (piecesFrom (countAt words at) words at) (comparedOf values octets (firstAt words at)) ∙ length-pieces (countAt words at) words at ∙ sym (w .counted)
 
-  pub length-pieces : length (piecesOf values octets (storedAt words at)) ≡ getD words (at + 52) 0
-  unfolding piecesOf
-  length-pieces = length-map (pieceOf values octets (getD words (at + 54) 0)) (componentsFrom (getD words (at + 52) 0) words at) ∙ length-components (getD words (at + 52) 0) words at
+  module _ (i : ℕ) (h : i < count) where
+    at-place : pieceAt words (at + 4 * i) ≡ getD (piecesFrom (countAt words at) words at) i NoRecord
+    at-place = piece-in (countAt words at) words at i (rw (w .counted) at h)
 
-  module _ (i : ℕ) (h : i < getD words (at + 52) 0) (c : FlowSpecComponent) (is : c ≡ componentIn (partAt words (at + 4 * i))) where
-    here : c ≡ getD (componentsFrom (getD words (at + 52) 0) words at) i Nothing
-    here = is ∙ ap componentIn (part-in (getD words (at + 52) 0) words at i h (is-a-rule words at (r .rule) .parts))
+    compared-at : getD (allCompared values octets (storedAt words at)) i (compared 0 (listed [])) ≡ comparedOf values octets first (pieceAt words (at + 4 * i))
+    compared-at =
+        List·getD-map (comparedOf values octets (firstAt words at)) (piecesFrom (countAt words at) words at) i NoRecord
+        ∙ ap₂ (λ (f : ℕ) (p : Piece). comparedOf values octets f p) (sym (w .begins)) (sym at-place)
 
-    pub piece-at : getD (piecesOf values octets (storedAt words at)) i (pieceOf values octets (getD words (at + 54) 0) Nothing) ≡ pieceOf values octets (getD words (at + 54) 0) c
-    unfolding piecesOf
-    piece-at =
-        getD-map (pieceOf values octets (getD words (at + 54) 0)) (componentsFrom (getD words (at + 52) 0) words at) i Nothing
-        ∙ ap (λ (d : FlowSpecComponent). pieceOf values octets (getD words (at + 54) 0) d) (sym here)
+    pub inside-at : Inside (length values) (length octets) first (pieceAt words (at + 4 * i))
+    inside-at =
+        rw (w .begins, at-place)
+        (inside-in (length values) (length octets) (firstAt words at) (piecesFrom (countAt words at) words at) i (rw (length-pieces (countAt words at) words at, ← w .counted) h) (w .rankable .inside))
 
-    pub inside-here : Inside (length values) (length octets) (getD words (at + 54) 0) (contentOf c)
-    inside-here =
-        rw here (inside-at (length values) (length octets) (getD words (at + 54) 0) (componentsFrom (getD words (at + 52) 0) words at) i (rw (length-components (getD words (at + 52) 0) words at) h) (r .inside))
+-- ---- the walk over two rules: i components of each are passed
 
--- ---- the walk over two rules
-module _ (words : List ℕ) (at : ℕ) (values octets : List ℕ) (words2 : List ℕ) (at2 : ℕ) (values2 octets2 : List ℕ) where
-  abbrev left : ℕ → Order
-  left i = rest rankPiece (piecesOf values octets (storedAt words at)) (piecesOf values2 octets2 (storedAt words2 at2)) i
+pub record ComponentsPassed (words : List ℕ) (at : ℕ) (values octets : List ℕ) (words2 : List ℕ) (at2 : ℕ) (values2 octets2 : List ℕ) (i : ℕ) : Type 0 where
+  pub passed : Passed rankCompared (allCompared values octets (storedAt words at)) (allCompared values2 octets2 (storedAt words2 at2)) i
 
-  pub rules-first : rankOf values octets (storedAt words at) values2 octets2 (storedAt words2 at2) ≡ left 0
-  unfolding rankOf
-  rules-first = rest-first rankPiece _ _
+module _ {words : List ℕ} {at : ℕ} {values octets : List ℕ} {words2 : List ℕ} {at2 : ℕ} {values2 octets2 : List ℕ} where
+  pub no-components : ComponentsPassed words at values octets words2 at2 values2 octets2 0
+  no-components = record { passed = none-passed rankCompared _ _ }
 
-  module _ (r : Rankable words at values octets) (s : Rankable words2 at2 values2 octets2)
-      (both : ℕ) (is : both ≡ min (getD words (at + 52) 0) (getD words2 (at2 + 52) 0)) (i : ℕ) where
-    n : length (piecesOf values octets (storedAt words at)) ≡ getD words (at + 52) 0
-    n = length-pieces words at values octets r
+  module _ {count first count2 first2 i : ℕ} (w : Walked words at values octets count first) (w2 : Walked words2 at2 values2 octets2 count2 first2)
+      (p : ComponentsPassed words at values octets words2 at2 values2 octets2 i) where
+    n : length (allCompared values octets (storedAt words at)) ≡ count
+    n = length-compared w
 
-    m : length (piecesOf values2 octets2 (storedAt words2 at2)) ≡ getD words2 (at2 + 52) 0
-    m = length-pieces words2 at2 values2 octets2 s
+    n2 : length (allCompared values2 octets2 (storedAt words2 at2)) ≡ count2
+    n2 = length-compared w2
 
-    abbrev none : Piece
-    none = pieceOf values octets (getD words (at + 54) 0) Nothing
+    pub components-end : i ≤ min count count2 → min count count2 ≤ i → rankOf values octets (storedAt words at) values2 octets2 (storedAt words2 at2) ≡ lower count2 count
+    unfolding rankOf
+    components-end h l = one-ended rankCompared _ _ i (p .passed) (compared 0 (listed [])) (rw (n, n2) h) (rw (n, n2) l) ∙ ap₂ lower n2 n
 
-    abbrev none2 : Piece
-    none2 = pieceOf values2 octets2 (getD words2 (at2 + 54) 0) Nothing
+    module _ (h : i < count) (l : i < count2) where
+      pub components-tell : (o : Order) → rankCompared (comparedOf values octets first (pieceAt words (at + 4 * i))) (comparedOf values2 octets2 first2 (pieceAt words2 (at2 + 4 * i))) ≡ o
+          → rankOf values octets (storedAt words at) values2 octets2 (storedAt words2 at2) ≡ thenBy o (rank (drop (i + 1) (allCompared values octets (storedAt words at))) (drop (i + 1) (allCompared values2 octets2 (storedAt words2 at2))))
+      unfolding rankOf
+      components-tell o e =
+          next-tells rankCompared _ _ i (p .passed) (compared 0 (listed [])) (rw n h) (rw n2 l) o
+          (ap₂ (λ (a b : Compared). rankCompared a b) (compared-at w i h) (compared-at w2 i l) ∙ e)
 
-    pub rules-end : i ≤ both → both ≤ i → left i ≡ lower (getD words2 (at2 + 52) 0) (getD words (at + 52) 0)
-    rules-end h l = rest-end rankPiece _ _ i none none2 (rw (n, m, ← is) h) (rw (n, m, ← is) l) ∙ ap₂ lower m n
-
-    pub rules-turn : i < both
-        → (a b : FlowSpecComponent) → a ≡ componentIn (partAt words (at + 4 * i)) → b ≡ componentIn (partAt words2 (at2 + 4 * i))
-        → (o : Order) → rankPiece (pieceOf values octets (getD words (at + 54) 0) a) (pieceOf values2 octets2 (getD words2 (at2 + 54) 0) b) ≡ o → left i ≡ thenBy o (left (i + 1))
-    rules-turn h a b e f o q =
-        let x : i < getD words (at + 52) 0 = omega (arith, min-le-left (getD words (at + 52) 0) (getD words2 (at2 + 52) 0)) in
-        let y : i < getD words2 (at2 + 52) 0 = omega (arith, min-le-right (getD words (at + 52) 0) (getD words2 (at2 + 52) 0)) in
-        rest-turn rankPiece _ _ i none none2 (rw (n, m, ← is) h) o
-        (ap₂ (λ (u v : Piece). rankPiece u v) (piece-at words at values octets r i x a e) (piece-at words2 at2 values2 octets2 s i y b f) ∙ q)
+      pub components-equal : rankCompared (comparedOf values octets first (pieceAt words (at + 4 * i))) (comparedOf values2 octets2 first2 (pieceAt words2 (at2 + 4 * i))) ≡ Equal
+          → ComponentsPassed words at values octets words2 at2 values2 octets2 (i + 1)
+      unfolding rankOf
+      components-equal e = record { passed = record { same = components-tell Equal e } }

@@ -9,7 +9,7 @@ use lib.Pow.{shr-mono}
 use Rattle.wide.specs.Numbers.{num}
 use Rattle.ranking.specs.declared.Order.{Order}
 use Rattle.ranking.specs.declared.Front.{Front}
-use Rattle.ranking.specs.Ranks.{lower, thenBy, inTurn, rankOctets, leadingBits, frontOf, rankBits, rankFront, Compared, prefixed, listed, Piece, rankContent, rankPiece}
+use Rattle.ranking.specs.Ranks.{lower, thenBy, inTurn, rankOctets, leadingBits, frontOf, rankFront, Content, prefixed, listed, Compared, rankContent, rankCompared}
 use Rattle.ranking.proofs.Orders.{Way, below, equal, above, way, low-below, low-equal, low-above, low-suc, Ordered, numbers-ordered, turn-ordered, by-key}
 use Rattle.ranking.proofs.LeadingBits.{fewer}
 
@@ -58,7 +58,7 @@ unfoldable pub frontKey : Front → List ℕ
 frontKey f = f .offset ∷ leadingBits 0 (num (f .address)) ∷ more (f .length) 0 (num (f .address))
 
 pub front-keyed : (f g : Front) → rankFront f g ≡ rankOctets (frontKey f) (frontKey g)
-unfolding rankFront rankBits frontKey inTurn
+unfolding rankFront frontKey inTurn
 front-keyed f g =
     let e : 0 + min (f .length) (g .length) ≡ min (f .length) (g .length) = zero-add (min (f .length) (g .length)) in
     ap (λ (o : Order). thenBy (lower (f .offset) (g .offset)) o)
@@ -67,31 +67,31 @@ front-keyed f g =
 
 -- ---- a component
 
-unfoldable pub contentKey : Compared → List ℕ
+unfoldable pub contentKey : Content → List ℕ
 contentKey (prefixed p) = 0 ∷ frontKey (frontOf p)
 contentKey (listed xs) = 1 ∷ xs
 
-content-keyed : (c d : Compared) → rankContent c d ≡ rankOctets (contentKey c) (contentKey d)
+content-keyed : (c d : Content) → rankContent c d ≡ rankOctets (contentKey c) (contentKey d)
 unfolding contentKey inTurn
 content-keyed (prefixed p) (prefixed q) = front-keyed (frontOf p) (frontOf q) ∙ sym (ap (λ (o : Order). thenBy o (rankOctets (frontKey (frontOf p)) (frontKey (frontOf q)))) (low-equal 0 0 refl))
 content-keyed (prefixed p) (listed ys) = sym (ap (λ (o : Order). thenBy o (rankOctets (frontKey (frontOf p)) ys)) (low-below 0 1 (omega arith)))
 content-keyed (listed xs) (prefixed q) = sym (ap (λ (o : Order). thenBy o (rankOctets xs (frontKey (frontOf q)))) (low-above 1 0 (omega arith)))
 content-keyed (listed xs) (listed ys) = sym (ap (λ (o : Order). thenBy o (rankOctets xs ys)) (low-equal 1 1 refl))
 
-unfoldable pub pieceKey : Piece → List ℕ
-pieceKey p = p .type ∷ contentKey (p .content)
+unfoldable pub comparedKey : Compared → List ℕ
+comparedKey a = a .tag ∷ contentKey (a .content)
 
-piece-keyed : (p q : Piece) → rankPiece p q ≡ rankOctets (pieceKey p) (pieceKey q)
-unfolding rankPiece pieceKey inTurn
-piece-keyed p q = ap (λ (o : Order). thenBy (lower (p .type) (q .type)) o) (content-keyed (p .content) (q .content))
+compared-keyed : (a b : Compared) → rankCompared a b ≡ rankOctets (comparedKey a) (comparedKey b)
+unfolding rankCompared comparedKey inTurn
+compared-keyed a b = ap (λ (o : Order). thenBy (lower (a .tag) (b .tag)) o) (content-keyed (a .content) (b .content))
 
 -- ---- in an order
 
 pub octets-ordered : Ordered (inTurn lower)
 octets-ordered = turn-ordered lower numbers-ordered
 
-pub pieces-ordered : Ordered rankPiece
-pieces-ordered = by-key rankPiece (inTurn lower) pieceKey octets-ordered piece-keyed
+pub compared-ordered : Ordered rankCompared
+compared-ordered = by-key rankCompared (inTurn lower) comparedKey octets-ordered compared-keyed
 
-pub rank-ordered : Ordered (inTurn rankPiece)
-rank-ordered = turn-ordered rankPiece pieces-ordered
+pub rank-ordered : Ordered (inTurn rankCompared)
+rank-ordered = turn-ordered rankCompared compared-ordered

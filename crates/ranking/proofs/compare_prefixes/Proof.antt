@@ -2,7 +2,7 @@
 use mathlib.Core.Path.{ap, ap₂, _∙_}
 use Prim.Native.Nat.{ℕ}
 use Rattle.ranking.specs.declared.Front.{Front}
-use Rattle.ranking.specs.Ranks.{lower, thenBy, leadingBits, rankBits, rankFront}
+use Rattle.ranking.specs.Ranks.{lower, thenBy, leadingBits, rankFront}
 use Rattle.wide.specs.Numbers.{num}
 use borrow.Author.Needs.{needs}
 use Rattle.ranking.proofs.compare_prefixes.Statement.{statement}
@@ -51,7 +51,7 @@ then-by-requires-2 : tie.Need-then-by-requires-2
 then-by-requires-2 c κs = search needs
 
 returns : tie.Need-returns
-unfolding rankBits rankFront
+unfolding rankFront
 returns c =
     let t = c .before in
     let l = t .before in
