@@ -82,13 +82,13 @@ inside-in v o first [] i h a = absurd (omega arith)
 inside-in v o first (p ∷ ps) zero h a = a .0
 inside-in v o first (p ∷ ps) (suc i) h a = inside-in v o first ps i (omega arith) (a .1)
 
--- a rule that is walked: how many components it has, and where its operators begin
-pub record Walked (words : List ℕ) (at : ℕ) (values octets : List ℕ) (count first : ℕ) : Type 0 where
+-- a rule whose walk has begun: how many components it has, and where its operators begin
+pub record Begun (words : List ℕ) (at : ℕ) (values octets : List ℕ) (count first : ℕ) : Type 0 where
   pub rankable : Rankable words at values octets
   pub counted : count ≡ countAt words at
   pub begins : first ≡ firstAt words at
 
-module _ {words : List ℕ} {at : ℕ} {values octets : List ℕ} {count first : ℕ} (w : Walked words at values octets count first) where
+module _ {words : List ℕ} {at : ℕ} {values octets : List ℕ} {count first : ℕ} (w : Begun words at values octets count first) where
   pub few : count ≤ 13
   few = rw (w .counted) (framed words at (rule-framed words at (w .rankable .rule)) .few)
 
@@ -119,7 +119,7 @@ module _ {words : List ℕ} {at : ℕ} {values octets : List ℕ} {words2 : List
   pub no-components : ComponentsPassed words at values octets words2 at2 values2 octets2 0
   no-components = record { passed = none-passed rankCompared _ _ }
 
-  module _ {count first count2 first2 i : ℕ} (w : Walked words at values octets count first) (w2 : Walked words2 at2 values2 octets2 count2 first2)
+  module _ {count first count2 first2 i : ℕ} (w : Begun words at values octets count first) (w2 : Begun words2 at2 values2 octets2 count2 first2)
       (p : ComponentsPassed words at values octets words2 at2 values2 octets2 i) where
     n : length (allCompared values octets (storedAt words at)) ≡ count
     n = length-compared w

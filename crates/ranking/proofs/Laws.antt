@@ -3,7 +3,7 @@
 -- well-formed prefix has none.
 use Prim.Native.Nat.{ℕ, suc, _-_, _*_, _/_, _%_, _^_, _≤_, _<_, min}
 use mathlib.Core.Path.{_≡_, refl, sym, _∙_, ap, ap₂}
-use mathlib.Core.Bool.{Bool, true, false, _&&_, true≢false, false≢true}
+use mathlib.Core.Bool.{Bool, true, false, _&&_, false≢true}
 use mathlib.Core.List.{List, [], _∷_}
 use native.Mathlib.Nat.{min-eq-left}
 use native.Mathlib.Omega.{arith}
@@ -53,17 +53,15 @@ module _ {A : Type 0} (by : A → A → Order) (o : Ordered by) where
   pub over : (x y z : A) → by x z ≡ Precedes → (by y z ≡ Precedes → ⊥) → by x y ≡ Precedes
   over x y z e n = over′ x y z (by y z) e refl n
 
-  -- the same as tests
-  before-is : (q : Order) → isBefore q ≡ true → q ≡ Precedes
-  before-is Precedes e = refl
-  before-is Equal e = absurd (false≢true e)
-  before-is Follows e = absurd (false≢true e)
+  -- what precedes is preceded by none of those that it precedes
+  pub preceded : (x y : A) → by x y ≡ Precedes → by y x ≡ Follows
+  preceded x y e = o .flips x y ∙ ap flip e
 
-  pub one-way : (x y : A) → isBefore (by x y) ≡ true → isBefore (by y x) ≡ false
-  one-way x y e = ap isBefore (o .flips x y ∙ ap flip (before-is (by x y) e))
-
-  pub carries-on : (x y z : A) → isBefore (by x z) ≡ true → isBefore (by y z) ≡ false → isBefore (by x y) ≡ true
-  carries-on x y z e f = ap isBefore (over x y z (before-is (by x z) e) (λ q. true≢false (sym (ap isBefore q) ∙ f)))
+-- as a test
+pub before-is : (q : Order) → isBefore q ≡ true → q ≡ Precedes
+before-is Precedes e = refl
+before-is Equal e = absurd (false≢true e)
+before-is Follows e = absurd (false≢true e)
 
 -- ---- rules, each with the lent lists that hold its operators
 

@@ -349,11 +349,11 @@ pub fn compare_rules(
     requires second { ⌜ Rankable (now words2) at2 (now values2) (now octets2) ⌝ }
     ensures { λ r. ⌜ r ≡ rankOf (now (values .entry)) (now (octets .entry)) (storedAt (now (words .entry)) at) (now (values2 .entry)) (now (octets2 .entry)) (storedAt (now (words2 .entry)) at2) ⌝ }
 {
-    let count = stored::count_at(words, at);
-    let count2 = stored::count_at(words2, at2);
+    let held = stored::count_at(words, at);
+    let held2 = stored::count_at(words2, at2);
     let first = stored::first_at(words, at);
     let first2 = stored::first_at(words2, at2);
-    let both = shorter(count, count2);
+    let both = shorter(held, held2);
     let mut i: usize = 0;
     while i < both {
         match compare_components(
@@ -379,5 +379,5 @@ pub fn compare_rules(
             }
         }
     }
-    compare_numbers(count2 as u64, count as u64)
+    compare_numbers(held2 as u64, held as u64)
 }

@@ -1,9 +1,10 @@
 -- `ranking::compare_lists` meets its contract. The invariant: the first i operators of each rank equal.
-use mathlib.Core.Path.{sym, _∙_}
+use mathlib.Core.Path.{_≡_, sym, _∙_}
 use Prim.Native.Nat.{_-_, _≤_}
 use borrow.Author.Needs.{needs}
 use native.Mathlib.Omega.{arith}
 use native.Mathlib.Nat.{min-le-left, min-le-right}
+use Rattle.ranking.specs.Ranks.{lower}
 use Rattle.ranking.proofs.OperatorsInTurn.{OperatorsPassed, no-operators, operators-end, operators-equal, operators-tell}
 use Rattle.ranking.proofs.compare_lists.Statement.{statement}
 use Rattle.ranking.proofs.compare_lists.Tie as tie
@@ -92,7 +93,9 @@ compare-numbers-requires c κs = search needs
 returns-3 : tie.Need-returns-3 Inv-loop μ-loop
 returns-3 c =
     let l = c .before .before in
-    c .compare-numbers .ensures ∙ sym (operators-end (l .loop .inv .3) (omega (arith, l .before .shorter .ensures)) (omega (arith, l .before .shorter .ensures)))
+    let g = l .before .before .before .before .before .before .args in
+    let longer : c .compare-numbers .result ≡ lower (g .count2) (g .count) = c .compare-numbers .ensures in
+    longer ∙ sym (operators-end (l .loop .inv .3) (omega (arith, l .before .shorter .ensures)) (omega (arith, l .before .shorter .ensures)))
 
 pub compare-lists-spec : {M : Type 1} → statement M
 compare-lists-spec =

@@ -1,20 +1,21 @@
 -- `ranking::compare_rules` meets its contract. The invariant: the first i components of each rank equal.
-use mathlib.Core.Path.{sym, _∙_}
+use mathlib.Core.Path.{_≡_, sym, _∙_}
 use Prim.Native.Nat.{_-_, _≤_}
 use borrow.Author.Needs.{needs}
 use native.Mathlib.Omega.{arith}
 use native.Mathlib.Nat.{min-le-left, min-le-right}
-use Rattle.ranking.proofs.ComponentsInTurn.{Walked, few, inside-at, ComponentsPassed, no-components, components-end, components-tell, components-equal}
+use Rattle.ranking.specs.Ranks.{lower}
+use Rattle.ranking.proofs.ComponentsInTurn.{Begun, few, inside-at, ComponentsPassed, no-components, components-end, components-tell, components-equal}
 use Rattle.ranking.proofs.compare_rules.Statement.{statement}
 use Rattle.ranking.proofs.compare_rules.Tie as tie
 
 abbrev Inv-loop : tie.InvT-loop
-Inv-loop words at values octets words2 at2 values2 octets2 count count2 first first2 both i₀ i =
-    (both ≤ count) × (both ≤ count2) × (both ≤ 13) × (i ≤ both) × Walked words at values octets count first × Walked words2 at2 values2 octets2 count2 first2
+Inv-loop words at values octets words2 at2 values2 octets2 held held2 first first2 both i₀ i =
+    (both ≤ held) × (both ≤ held2) × (both ≤ 13) × (i ≤ both) × Begun words at values octets held first × Begun words2 at2 values2 octets2 held2 first2
     × ComponentsPassed words at values octets words2 at2 values2 octets2 i
 
 abbrev μ-loop : tie.MeasureT-loop
-μ-loop words at values octets words2 at2 values2 octets2 count count2 first first2 both i₀ i = both - i
+μ-loop words at values octets words2 at2 values2 octets2 held held2 first first2 both i₀ i = both - i
 
 count-at-requires : tie.Need-count-at-requires Inv-loop μ-loop
 count-at-requires c κs = search needs
@@ -39,8 +40,8 @@ loop-holds c =
     let n = n2 .before in
     let s = n .before .before .before .before .before .before .before in
     let g = s .args in
-    let w : Walked (g .words .now) (g .at) (g .values .now) (g .octets .now) (n .count-at .result) (f .first-at .result) = record { rankable = s .pre .0; counted = n .count-at .ensures; begins = f .first-at .ensures } in
-    let w2 : Walked (g .words2 .now) (g .at2) (g .values2 .now) (g .octets2 .now) (n2 .count-at2 .result) (f2 .first-at2 .result) = record { rankable = s .pre .1; counted = n2 .count-at2 .ensures; begins = f2 .first-at2 .ensures } in
+    let w : Begun (g .words .now) (g .at) (g .values .now) (g .octets .now) (n .count-at .result) (f .first-at .result) = record { rankable = s .pre .0; counted = n .count-at .ensures; begins = f .first-at .ensures } in
+    let w2 : Begun (g .words2 .now) (g .at2) (g .values2 .now) (g .octets2 .now) (n2 .count-at2 .result) (f2 .first-at2 .result) = record { rankable = s .pre .1; counted = n2 .count-at2 .ensures; begins = f2 .first-at2 .ensures } in
     let l = min-le-left (n .count-at .result) (n2 .count-at2 .result) in
     let m = min-le-right (n .count-at .result) (n2 .count-at2 .result) in
     (omega arith, omega arith, omega (arith, few w), omega arith, w, w2, no-components)
@@ -105,7 +106,9 @@ returns-3 c =
     let l = c .before .before in
     let v = l .loop .inv in
     let e = l .before .shorter .ensures in
-    c .compare-numbers .ensures ∙ sym (components-end (v .4) (v .5) (v .6) (omega arith) (omega arith))
+    let n2 = l .before .before .before .before in
+    let more : c .compare-numbers .result ≡ lower (n2 .count-at2 .result) (n2 .before .count-at .result) = c .compare-numbers .ensures in
+    more ∙ sym (components-end (v .4) (v .5) (v .6) (omega arith) (omega arith))
 
 pub compare-rules-spec : {M : Type 1} → statement M
 compare-rules-spec =
