@@ -13,7 +13,7 @@ use Rattle.operators.specs.Ops.{kindOf, Op, listOctets}
 use Rattle.rules.specs.declared.NetworkPrefix.{NetworkPrefix}
 use Rattle.stored.specs.declared.Piece.{Piece}
 use Rattle.stored.specs.declared.Piece.the-variants.{Prefix, Operators, NoRecord}
-use Rattle.stored.specs.Pieces.{isRecord, quad, sameQuad, quadAt, pieceOf, pieceAt}
+use Rattle.stored.specs.Pieces.{isRecord, sameQuad, quadAt, pieceAt}
 use Rattle.stored.specs.Stored.{countAt, firstAt, piecesFrom, storedAt}
 use Rattle.stored.proofs.Words.{length-pieces, piece-in, framed, rule-framed}
 use Rattle.ranking.specs.declared.Order.{Order}

@@ -53,11 +53,10 @@ module _ {A : Type 0} (by : A → A → Order) (o : Ordered by) where
   pub over : (x y z : A) → by x z ≡ Precedes → (by y z ≡ Precedes → ⊥) → by x y ≡ Precedes
   over x y z e n = over′ x y z (by y z) e refl n
 
-  -- what precedes is preceded by none of those that it precedes
   pub preceded : (x y : A) → by x y ≡ Precedes → by y x ≡ Follows
   preceded x y e = o .flips x y ∙ ap flip e
 
--- as a test
+-- what the test for precedes says
 pub before-is : (q : Order) → isBefore q ≡ true → q ≡ Precedes
 before-is Precedes e = refl
 before-is Equal e = absurd (false≢true e)

@@ -85,7 +85,7 @@ rankOp kind a b =
 
 -- ---- rules
 
--- what is compared of a component: its type, and its prefix or the octets of its list
+-- what is compared of a component: its type, then its prefix or the octets of its list
 pub data Content : Type 0 where
   prefixed : NetworkPrefix → Content
   listed : List ℕ → Content
@@ -101,7 +101,7 @@ compared tag content = record { tag = tag; content = content }
 abbrev pub comparedList : List ℕ → List ℕ → ℕ → ℕ → ℕ → Compared
 comparedList values octets tag at n = compared tag (listed (listOctets (kindOf tag) (opsIn values octets at n)))
 
--- of a rule whose operators begin at a place; no rule has a NoRecord
+-- a component of a rule whose operators begin at a place; no rule has a NoRecord
 abbrev pub comparedOf : List ℕ → List ℕ → ℕ → Piece → Compared
 comparedOf values octets first (Prefix tag p) = compared tag (prefixed p)
 comparedOf values octets first (Operators tag start n) = comparedList values octets tag (first + start) n

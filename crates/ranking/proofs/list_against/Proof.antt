@@ -2,7 +2,6 @@
 use mathlib.Core.Path.{sym, _∙_}
 use native.Mathlib.Omega.{arith}
 use lib.ListN.{length}
-use Rattle.operators.specs.Ops.{kindOf, opsIn, listOctets}
 use Rattle.ranking.specs.Ranks.{prefixed, listed, comparedList}
 use Rattle.ranking.proofs.ComponentsInTurn.{by-tags, by-lists, as-told, inside-told}
 use borrow.Author.Needs.{needs}
