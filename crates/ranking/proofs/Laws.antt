@@ -3,28 +3,28 @@
 -- well-formed prefix has none.
 use Prim.Native.Nat.{ℕ, suc, _-_, _*_, _/_, _%_, _^_, _≤_, _<_, min}
 use mathlib.Core.Path.{_≡_, refl, sym, _∙_, ap, ap₂}
-use mathlib.Core.Bool.{Bool, true, false, _&&_, true≢false, false≢true}
+use mathlib.Core.Bool.{Bool, true, false, _&&_, false≢true}
 use mathlib.Core.List.{List, [], _∷_}
 use native.Mathlib.Nat.{min-eq-left}
 use native.Mathlib.Omega.{arith}
 use lib.Dec.{ltb}
 use lib.ListN.{length, take}
 use lib.Pow.{high, low}
+use Rattle.ground.proofs.Cases.{by-test, both}
 use Rattle.wide.specs.Numbers.{num, wide}
 use Rattle.octets.specs.Addresses.{firstBits}
 use Rattle.rules.specs.declared.NetworkPrefix.the-variants.{Ipv4, Ipv6Offset}
-use Rattle.rules.specs.declared.FlowSpecComponent.{FlowSpecComponent}
-use Rattle.rules.specs.declared.FlowSpecComponent.the-variants.{Nothing, DestinationPrefix, SourcePrefix, IpProtocol, Port, DestinationPort, SourcePort, IcmpType, IcmpCode, TcpFlags, PacketLength, Dscp, Fragment, FlowLabel}
-use Rattle.rules.specs.Components.{typeOf}
+use Rattle.stored.specs.declared.Piece.{Piece}
+use Rattle.stored.specs.declared.Piece.the-variants.{Prefix, Operators, NoRecord}
+use Rattle.stored.specs.declared.Quad.{Quad}
+use Rattle.stored.specs.Pieces.{typeOf, named, isPiece, pieceOf, pieceAt, quadAt}
 use Rattle.stored.specs.Stored.{StoredRule}
 use Rattle.ranking.specs.declared.Order.{Order}
 use Rattle.ranking.specs.declared.Order.the-variants.{Precedes, Equal, Follows}
 use Rattle.ranking.specs.declared.Front.{Front}
-use Rattle.ranking.specs.declared.Content.{Content}
-use Rattle.ranking.specs.declared.Content.the-variants.{Prefix, List as ListAt}
-use Rattle.ranking.specs.Ranks.{isBefore, contentOf, lower, thenBy, inTurn, rankOctets, firstOf, frontOf, rankBits, rankFront, rankPrefix, Compared, prefixed, listed, Piece, rankContent, rankPiece, rank, piecesOf, rankOf}
+use Rattle.ranking.specs.Ranks.{isBefore, lower, thenBy, inTurn, rankOctets, leadingBits, frontOf, rankFront, rankPrefix, Content, prefixed, listed, Compared, rankContent, rankCompared, rank, allCompared, rankOf}
 use Rattle.ranking.proofs.Orders.{never, way, low-below, low-equal, low-above, low-suc, equal-same, then-assoc, then-first, then-second, flip, Ordered, by-key}
-use Rattle.ranking.proofs.Leading.{first-ipv4}
+use Rattle.ranking.proofs.LeadingBits.{first-ipv4}
 use Rattle.ranking.proofs.Keys.{rank-ordered}
 
 -- ---- what every order has
@@ -53,17 +53,14 @@ module _ {A : Type 0} (by : A → A → Order) (o : Ordered by) where
   pub over : (x y z : A) → by x z ≡ Precedes → (by y z ≡ Precedes → ⊥) → by x y ≡ Precedes
   over x y z e n = over′ x y z (by y z) e refl n
 
-  -- the same as tests
-  before-is : (q : Order) → isBefore q ≡ true → q ≡ Precedes
-  before-is Precedes e = refl
-  before-is Equal e = absurd (false≢true e)
-  before-is Follows e = absurd (false≢true e)
+  pub preceded : (x y : A) → by x y ≡ Precedes → by y x ≡ Follows
+  preceded x y e = o .flips x y ∙ ap flip e
 
-  pub one-way : (x y : A) → isBefore (by x y) ≡ true → isBefore (by y x) ≡ false
-  one-way x y e = ap isBefore (o .flips x y ∙ ap flip (before-is (by x y) e))
-
-  pub carries-on : (x y z : A) → isBefore (by x z) ≡ true → isBefore (by y z) ≡ false → isBefore (by x y) ≡ true
-  carries-on x y z e f = ap isBefore (over x y z (before-is (by x z) e) (λ q. true≢false (sym (ap isBefore q) ∙ f)))
+-- what the test for precedes says
+pub before-is : (q : Order) → isBefore q ≡ true → q ≡ Precedes
+before-is Precedes e = refl
+before-is Equal e = absurd (false≢true e)
+before-is Follows e = absurd (false≢true e)
 
 -- ---- rules, each with the lent lists that hold its operators
 
@@ -77,7 +74,7 @@ ranked a b = rankOf (a .values) (a .octets) (a .rule) (b .values) (b .octets) (b
 
 pub rules-ordered : Ordered ranked
 unfolding rankOf
-rules-ordered = by-key ranked (inTurn rankPiece) (λ (a : Ruled). piecesOf (a .values) (a .octets) (a .rule)) rank-ordered (λ x y. refl)
+rules-ordered = by-key ranked (inTurn rankCompared) (λ (a : Ruled). allCompared (a .values) (a .octets) (a .rule)) rank-ordered (λ x y. refl)
 
 pub one-of-three : (a b : Ruled) → One (ranked a b) (ranked b a)
 one-of-three a b = exactly-one ranked rules-ordered a b
@@ -97,49 +94,46 @@ in-words (x ∷ xs) (y ∷ ys) =
     ap (λ (o : Order). thenBy (lower x y) o) (in-words xs ys ∙ ap (λ (o : Order). thenBy (rankOctets (take (length ys) xs) (take (length xs) ys)) o) (sym (low-suc (length ys) (length xs) (way _ _))))
     ∙ sym (then-assoc (lower x y) (rankOctets (take (length ys) xs) (take (length xs) ys)) (lower (suc (length ys)) (suc (length xs))))
 
--- of one type two components are both prefixes or both lists
-abbrev isPrefix : Content → Bool
-isPrefix (Prefix p) = true
-isPrefix (ListAt s) = false
+-- "Types 1 and 2 are prefixes": of one type two components are both prefixes or both lists
+abbrev isPrefix : Piece → Bool
+isPrefix (Prefix t p) = true
+isPrefix (Operators t start n) = false
+isPrefix NoRecord = false
 
-by-type : (c : FlowSpecComponent) → isPrefix (contentOf c) ≡ (ltb 0 (typeOf c) && ltb (typeOf c) 3)
-by-type Nothing = refl
-by-type (DestinationPrefix p) = refl
-by-type (SourcePrefix p) = refl
-by-type (IpProtocol s) = refl
-by-type (Port s) = refl
-by-type (DestinationPort s) = refl
-by-type (SourcePort s) = refl
-by-type (IcmpType s) = refl
-by-type (IcmpCode s) = refl
-by-type (TcpFlags s) = refl
-by-type (PacketLength s) = refl
-by-type (Dscp s) = refl
-by-type (Fragment s) = refl
-by-type (FlowLabel s) = refl
+from-one : (q : Quad) → isPiece q ≡ true → ltb 0 (q .mark % 16) ≡ true
+unfolding isPiece
+from-one q e = both (ltb 0 (q .mark % 16)) _ e .0
 
-pub never-mixed : (c d : FlowSpecComponent) → typeOf c ≡ typeOf d → isPrefix (contentOf c) ≡ isPrefix (contentOf d)
-never-mixed c d e = by-type c ∙ ap (λ (t : ℕ). ltb 0 t && ltb t 3) e ∙ sym (by-type d)
+by-type : (q : Quad) → isPrefix (pieceOf q) ≡ (ltb 0 (typeOf (pieceOf q)) && ltb (typeOf (pieceOf q)) 3)
+unfolding pieceOf named
+by-type q =
+    by-test (isPiece q)
+    (λ e. by-test (ltb (q .mark % 16) 3) (λ f. rw (e, f, from-one q e, f)) (λ f. rw (e, f, from-one q e, f)))
+    (λ e. rw e)
+
+pub never-mixed : (ws : List ℕ) (at : ℕ) (ws2 : List ℕ) (at2 : ℕ) → typeOf (pieceAt ws at) ≡ typeOf (pieceAt ws2 at2) → isPrefix (pieceAt ws at) ≡ isPrefix (pieceAt ws2 at2)
+unfolding pieceAt
+never-mixed ws at ws2 at2 e = by-type (quadAt ws at) ∙ ap (λ (t : ℕ). ltb 0 t && ltb t 3) e ∙ sym (by-type (quadAt ws2 at2))
 
 -- "10.0.0.0/8 precedes 11.0.0.0/16"; 10.1.0.0/16 precedes 10.0.0.0/8; two operators precede one alone, whose octet has the end mark
 pub worked : (rankPrefix (Ipv4 8 167772160) (Ipv4 16 184549376) ≡ Precedes) × (rankPrefix (Ipv4 16 167837696) (Ipv4 8 167772160) ≡ Precedes) × (rankOctets (1 ∷ 80 ∷ 129 ∷ 90 ∷ []) (129 ∷ 80 ∷ []) ≡ Precedes)
-unfolding rankFront rankBits inTurn lower
+unfolding rankFront inTurn lower
 worked = (refl, refl, refl)
 
 -- ---- equal rank
 
-abbrev pub Alike : Compared → Compared → Type 0
+abbrev pub Alike : Content → Content → Type 0
 Alike (prefixed p) (prefixed q) =
-    (frontOf p .offset ≡ frontOf q .offset) × (frontOf p .length ≡ frontOf q .length) × (firstOf (frontOf p .length) (num (frontOf p .address)) ≡ firstOf (frontOf q .length) (num (frontOf q .address)))
+    (frontOf p .offset ≡ frontOf q .offset) × (frontOf p .length ≡ frontOf q .length) × (leadingBits (frontOf p .length) (num (frontOf p .address)) ≡ leadingBits (frontOf q .length) (num (frontOf q .address)))
 Alike (prefixed p) (listed ys) = ⊥
 Alike (listed xs) (prefixed q) = ⊥
 Alike (listed xs) (listed ys) = xs ≡ ys
 
-abbrev pub AllAlike : List Piece → List Piece → Type 0
+abbrev pub AllAlike : List Compared → List Compared → Type 0
 AllAlike [] [] = Unit {0}
 AllAlike [] (q ∷ qs) = ⊥
 AllAlike (p ∷ ps) [] = ⊥
-AllAlike (p ∷ ps) (q ∷ qs) = (p .type ≡ q .type) × Alike (p .content) (q .content) × AllAlike ps qs
+AllAlike (p ∷ ps) (q ∷ qs) = (p .tag ≡ q .tag) × Alike (p .content) (q .content) × AllAlike ps qs
 
 same-octets : (xs ys : List ℕ) → rankOctets xs ys ≡ Equal → xs ≡ ys
 unfolding inTurn
@@ -155,63 +149,63 @@ octets-same [] = refl
 octets-same (x ∷ xs) = rw (low-equal x x refl) (octets-same xs)
 
 alike-prefix : (f g : Front) → rankFront f g ≡ Equal
-    → (f .offset ≡ g .offset) × (f .length ≡ g .length) × (firstOf (f .length) (num (f .address)) ≡ firstOf (g .length) (num (g .address)))
-unfolding rankFront rankBits
+    → (f .offset ≡ g .offset) × (f .length ≡ g .length) × (leadingBits (f .length) (num (f .address)) ≡ leadingBits (g .length) (num (g .address)))
+unfolding rankFront
 alike-prefix f g e =
     let n = min (f .length) (g .length) in
     let o = lower (f .offset) (g .offset) in
-    let b = lower (firstOf n (num (f .address))) (firstOf n (num (g .address))) in
+    let b = lower (leadingBits n (num (f .address))) (leadingBits n (num (g .address))) in
     let l = lower (g .length) (f .length) in
     let t = then-second o (thenBy b l) e in
     let len : f .length ≡ g .length = sym (equal-same (g .length) (f .length) (then-second b l t)) in
     let m : n ≡ f .length = min-eq-left (omega arith) in (
       equal-same (f .offset) (g .offset) (then-first o (thenBy b l) e),
       len,
-      sym (ap (λ (k : ℕ). firstOf k (num (f .address))) m) ∙ equal-same _ _ (then-first b l t) ∙ ap (λ (k : ℕ). firstOf k (num (g .address))) (m ∙ len),
+      sym (ap (λ (k : ℕ). leadingBits k (num (f .address))) m) ∙ equal-same _ _ (then-first b l t) ∙ ap (λ (k : ℕ). leadingBits k (num (g .address))) (m ∙ len),
     )
 
-alike-content : (c d : Compared) → rankContent c d ≡ Equal → Alike c d
+alike-content : (c d : Content) → rankContent c d ≡ Equal → Alike c d
 alike-content (prefixed p) (prefixed q) e = alike-prefix (frontOf p) (frontOf q) e
 alike-content (prefixed p) (listed ys) e = never (cc)
 alike-content (listed xs) (prefixed q) e = never (cc)
 alike-content (listed xs) (listed ys) e = same-octets xs ys e
 
-pub equal-alike : (ps qs : List Piece) → rank ps qs ≡ Equal → AllAlike ps qs
-unfolding inTurn rankPiece
+pub equal-alike : (ps qs : List Compared) → rank ps qs ≡ Equal → AllAlike ps qs
+unfolding inTurn rankCompared
 equal-alike [] [] e = tt
 equal-alike [] (q ∷ qs) e = never (cc)
 equal-alike (p ∷ ps) [] e = never (cc)
 equal-alike (p ∷ ps) (q ∷ qs) e =
-    let t = lower (p .type) (q .type) in
+    let t = lower (p .tag) (q .tag) in
     let c = rankContent (p .content) (q .content) in
     let h = then-first (thenBy t c) (rank ps qs) e in
-    (equal-same (p .type) (q .type) (then-first t c h), alike-content (p .content) (q .content) (then-second t c h), equal-alike ps qs (then-second (thenBy t c) (rank ps qs) e))
+    (equal-same (p .tag) (q .tag) (then-first t c h), alike-content (p .content) (q .content) (then-second t c h), equal-alike ps qs (then-second (thenBy t c) (rank ps qs) e))
 
-pub equal-rules : (a b : Ruled) → ranked a b ≡ Equal → AllAlike (piecesOf (a .values) (a .octets) (a .rule)) (piecesOf (b .values) (b .octets) (b .rule))
+pub equal-rules : (a b : Ruled) → ranked a b ≡ Equal → AllAlike (allCompared (a .values) (a .octets) (a .rule)) (allCompared (b .values) (b .octets) (b .rule))
 unfolding rankOf
-equal-rules a b e = equal-alike (piecesOf (a .values) (a .octets) (a .rule)) (piecesOf (b .values) (b .octets) (b .rule)) e
+equal-rules a b e = equal-alike (allCompared (a .values) (a .octets) (a .rule)) (allCompared (b .values) (b .octets) (b .rule)) e
 
 -- and the other way
-prefix-alike : (f g : Front) → f .offset ≡ g .offset → f .length ≡ g .length → firstOf (f .length) (num (f .address)) ≡ firstOf (g .length) (num (g .address)) → rankFront f g ≡ Equal
-unfolding rankFront rankBits
+prefix-alike : (f g : Front) → f .offset ≡ g .offset → f .length ≡ g .length → leadingBits (f .length) (num (f .address)) ≡ leadingBits (g .length) (num (g .address)) → rankFront f g ≡ Equal
+unfolding rankFront
 prefix-alike f g o l b =
     let m : min (f .length) (g .length) ≡ f .length = min-eq-left (omega arith) in
-    let b′ : firstOf (f .length) (num (f .address)) ≡ firstOf (f .length) (num (g .address)) = b ∙ ap (λ (k : ℕ). firstOf k (num (g .address))) (sym l) in
+    let b′ : leadingBits (f .length) (num (f .address)) ≡ leadingBits (f .length) (num (g .address)) = b ∙ ap (λ (k : ℕ). leadingBits k (num (g .address))) (sym l) in
     rw (m, low-equal (f .offset) (g .offset) o, low-equal _ _ b′, low-equal (g .length) (f .length) (sym l))
 
-content-alike : (c d : Compared) → Alike c d → rankContent c d ≡ Equal
+content-alike : (c d : Content) → Alike c d → rankContent c d ≡ Equal
 content-alike (prefixed p) (prefixed q) a = prefix-alike (frontOf p) (frontOf q) (a .0) (a .1) (a .2)
 content-alike (prefixed p) (listed ys) a = absurd a
 content-alike (listed xs) (prefixed q) a = absurd a
 content-alike (listed xs) (listed ys) a = ap (λ (l : List ℕ). rankOctets xs l) (sym a) ∙ octets-same xs
 
-pub alike-equal : (ps qs : List Piece) → AllAlike ps qs → rank ps qs ≡ Equal
-unfolding inTurn rankPiece
+pub alike-equal : (ps qs : List Compared) → AllAlike ps qs → rank ps qs ≡ Equal
+unfolding inTurn rankCompared
 alike-equal [] [] a = refl
 alike-equal [] (q ∷ qs) a = absurd a
 alike-equal (p ∷ ps) [] a = absurd a
 alike-equal (p ∷ ps) (q ∷ qs) a =
-    rw (low-equal (p .type) (q .type) (a .0), content-alike (p .content) (q .content) (a .1)) (alike-equal ps qs (a .2))
+    rw (low-equal (p .tag) (q .tag) (a .0), content-alike (p .content) (q .content) (a .1)) (alike-equal ps qs (a .2))
 
 -- ---- well-formed prefixes: no bits past the length, so that equal rank is the same prefix
 

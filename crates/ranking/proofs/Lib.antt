@@ -1,7 +1,7 @@
+pub mod ComponentsInTurn
 pub mod Keys
 pub mod Laws
-pub mod Leading
-pub mod Octets
+pub mod LeadingBits
+pub mod LeftInTurn
+pub mod OperatorsInTurn
 pub mod Orders
-pub mod Rules
-pub mod Turns

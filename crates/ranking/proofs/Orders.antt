@@ -126,6 +126,15 @@ by-key by of key o k = record {
   alike = λ x y z e. k x z ∙ o .alike (key x) (key y) (key z) (sym (k x y) ∙ e) ∙ sym (k y z);
 }
 
+-- nothing precedes itself
+flip-self : (o : Order) → o ≡ flip o → o ≡ Equal
+flip-self Precedes e = never (cc)
+flip-self Equal e = refl
+flip-self Follows e = never (cc)
+
+pub equals-itself : {A : Type 0} (by : A → A → Order) → Ordered by → (x : A) → by x x ≡ Equal
+equals-itself by o x = flip-self (by x x) (o .flips x x)
+
 -- equals rank alike on the other side too
 alike-right : {A : Type 0} (by : A → A → Order) → Ordered by → (x y z : A) → by x y ≡ Equal → by z x ≡ by z y
 alike-right by o x y z e = o .flips x z ∙ ap flip (o .alike x y z e) ∙ sym (o .flips y z)

@@ -13,18 +13,12 @@ use Rattle.operators.specs.declared.Kind.{Kind}
 use Rattle.operators.specs.Ops.{kindOf, clearedIn, Op, opsIn, listOctets}
 use Rattle.rules.specs.declared.NetworkPrefix.{NetworkPrefix}
 use Rattle.rules.specs.declared.NetworkPrefix.the-variants.{Ipv4, Ipv6, Ipv4Offset, Ipv6Offset}
-use Rattle.rules.specs.declared.Span.{Span}
-use Rattle.rules.specs.declared.FlowSpecComponent.{FlowSpecComponent}
-use Rattle.rules.specs.declared.FlowSpecComponent.the-variants.{Nothing, DestinationPrefix, SourcePrefix, IpProtocol, Port, DestinationPort, SourcePort, IcmpType, IcmpCode, TcpFlags, PacketLength, Dscp, Fragment, FlowLabel}
-use Rattle.rules.specs.Components.{typeOf}
-use Rattle.stored.specs.declared.Part.{Part}
-use Rattle.stored.specs.declared.Part.the-variants.{Is, NoRecord}
-use Rattle.stored.specs.Stored.{StoredRule, isRule, storedAt, span}
+use Rattle.stored.specs.declared.Piece.{Piece}
+use Rattle.stored.specs.declared.Piece.the-variants.{Prefix, Operators, NoRecord}
+use Rattle.stored.specs.Stored.{StoredRule, isRule, storedAt}
 use Rattle.ranking.specs.declared.Order.{Order}
 use Rattle.ranking.specs.declared.Order.the-variants.{Precedes, Equal, Follows}
 use Rattle.ranking.specs.declared.Front.{Front}
-use Rattle.ranking.specs.declared.Content.{Content}
-use Rattle.ranking.specs.declared.Content.the-variants.{Prefix, List as ListAt}
 
 -- "lower precedes"
 unfoldable pub lower : ℕ → ℕ → Order
@@ -52,8 +46,8 @@ pub record Shares (k a b r : ℕ) : Type 0 where
   pub only : (n : ℕ) → n ≤ k → a / 2 ^ (k - n) ≡ b / 2 ^ (k - n) → n ≤ r
 
 -- the first n of 128 bits
-abbrev pub firstOf : ℕ → ℕ → ℕ
-firstOf n a = a / 2 ^ (128 - n)
+abbrev pub leadingBits : ℕ → ℕ → ℕ
+leadingBits n a = a / 2 ^ (128 - n)
 
 -- bits count from the front of the address, so that an IPv4 address is the first 32 of the 128; a form without an offset has offset 0
 abbrev pub front : ℕ → ℕ → ℕ → ℕ → Front
@@ -66,8 +60,8 @@ frontOf (Ipv4Offset len off a) = front off len (a * 2 ^ 32) 0
 frontOf (Ipv6Offset len off h l) = front off len h l
 
 -- "Prefixes: IPv6 lower offset precedes; then the bits up to the shorter length, lower precedes; then the longer length."
-unfoldable pub rankBits : ℕ → Front → Front → Order
-rankBits n f g = lower (firstOf n (num (f .address))) (firstOf n (num (g .address)))
+abbrev pub rankBits : ℕ → Front → Front → Order
+rankBits n f g = lower (leadingBits n (num (f .address))) (leadingBits n (num (g .address)))
 
 unfoldable pub rankFront : Front → Front → Order
 rankFront f g = thenBy (lower (f .offset) (g .offset)) (thenBy (rankBits (min (f .length) (g .length)) f g) (lower (g .length) (f .length)))
@@ -91,61 +85,48 @@ rankOp kind a b =
 
 -- ---- rules
 
-abbrev pub contentOf : FlowSpecComponent → Content
-contentOf Nothing = ListAt (span 0 0)
-contentOf (DestinationPrefix p) = Prefix p
-contentOf (SourcePrefix p) = Prefix p
-contentOf (IpProtocol s) = ListAt s
-contentOf (Port s) = ListAt s
-contentOf (DestinationPort s) = ListAt s
-contentOf (SourcePort s) = ListAt s
-contentOf (IcmpType s) = ListAt s
-contentOf (IcmpCode s) = ListAt s
-contentOf (TcpFlags s) = ListAt s
-contentOf (PacketLength s) = ListAt s
-contentOf (Dscp s) = ListAt s
-contentOf (Fragment s) = ListAt s
-contentOf (FlowLabel s) = ListAt s
+-- what is compared of a component: its type, then its prefix or the octets of its list
+pub data Content : Type 0 where
+  prefixed : NetworkPrefix → Content
+  listed : List ℕ → Content
 
--- what is compared of a component: its type, and its prefix or the octets of its list
-pub data Compared : Type 0 where
-  prefixed : NetworkPrefix → Compared
-  listed : List ℕ → Compared
+pub record Compared : Type 0 where
+  pub tag : ℕ
+  pub content : Content
 
-pub record Piece : Type 0 where
-  pub type : ℕ
-  pub content : Compared
+abbrev pub compared : ℕ → Content → Compared
+compared tag content = record { tag = tag; content = content }
 
-abbrev pub spanOctets : List ℕ → List ℕ → ℕ → Kind → Span → List ℕ
-spanOctets values octets first kind s = listOctets kind (opsIn values octets (first + s .start) (s .count))
+-- the list of n operators from a place of the lent lists on
+abbrev pub comparedList : List ℕ → List ℕ → ℕ → ℕ → ℕ → Compared
+comparedList values octets tag at n = compared tag (listed (listOctets (kindOf tag) (opsIn values octets at n)))
 
-abbrev pub comparedOf : List ℕ → List ℕ → ℕ → Kind → Content → Compared
-comparedOf values octets first kind (Prefix p) = prefixed p
-comparedOf values octets first kind (ListAt s) = listed (spanOctets values octets first kind s)
-
-abbrev pub pieceOf : List ℕ → List ℕ → ℕ → FlowSpecComponent → Piece
-pieceOf values octets first c = record { type = typeOf c; content = comparedOf values octets first (kindOf (typeOf c)) (contentOf c) }
+-- a component of a rule whose operators begin at a place; no rule has a NoRecord
+abbrev pub comparedOf : List ℕ → List ℕ → ℕ → Piece → Compared
+comparedOf values octets first (Prefix tag p) = compared tag (prefixed p)
+comparedOf values octets first (Operators tag start n) = comparedList values octets tag (first + start) n
+comparedOf values octets first NoRecord = compared 0 (listed [])
 
 -- a prefix and a list are never of one type (`never-mixed` in proofs/); the prefix precedes, so that any two are in an order
-abbrev pub rankContent : Compared → Compared → Order
+abbrev pub rankContent : Content → Content → Order
 rankContent (prefixed p) (prefixed q) = rankPrefix p q
 rankContent (prefixed p) (listed ys) = Precedes
 rankContent (listed xs) (prefixed q) = Follows
 rankContent (listed xs) (listed ys) = rankOctets xs ys
 
 -- "components are compared in turn; lower type precedes, and an ended rule counts as a type above all"
-unfoldable pub rankPiece : Piece → Piece → Order
-rankPiece p q = thenBy (lower (p .type) (q .type)) (rankContent (p .content) (q .content))
+unfoldable pub rankCompared : Compared → Compared → Order
+rankCompared a b = thenBy (lower (a .tag) (b .tag)) (rankContent (a .content) (b .content))
 
-abbrev pub rank : List Piece → List Piece → Order
-rank ps qs = inTurn rankPiece ps qs
+abbrev pub rank : List Compared → List Compared → Order
+rank xs ys = inTurn rankCompared xs ys
 
--- the pieces of a stored rule, its operators in the lent lists from its first place on
-unfoldable pub piecesOf : List ℕ → List ℕ → StoredRule → List Piece
-piecesOf values octets r = map (pieceOf values octets (r .first)) (r .components)
+-- a stored rule, its operators in the lent lists from its first place on
+abbrev pub allCompared : List ℕ → List ℕ → StoredRule → List Compared
+allCompared values octets r = map (comparedOf values octets (r .head .first)) (r .pieces)
 
 unfoldable pub rankOf : List ℕ → List ℕ → StoredRule → List ℕ → List ℕ → StoredRule → Order
-rankOf values octets r values2 octets2 s = rank (piecesOf values octets r) (piecesOf values2 octets2 s)
+rankOf values octets r values2 octets2 s = rank (allCompared values octets r) (allCompared values2 octets2 s)
 
 abbrev pub isBefore : Order → Bool
 isBefore Precedes = true
@@ -154,23 +135,16 @@ isBefore Follows = false
 
 -- ---- what is tested before rules are ranked: 64 words that are a rule, and operators within the lent lists
 
-abbrev pub Within : ℕ → ℕ → ℕ → Span → Type 0
-Within values octets first s = (first + s .start + s .count ≤ values) × (first + s .start + s .count ≤ octets)
+abbrev pub Inside : ℕ → ℕ → ℕ → Piece → Type 0
+Inside values octets first (Prefix tag p) = Unit {0}
+Inside values octets first (Operators tag start n) = (first + start + n ≤ values) × (first + start + n ≤ octets)
+Inside values octets first NoRecord = ⊥
 
-abbrev pub Inside : ℕ → ℕ → ℕ → Content → Type 0
-Inside values octets first (Prefix p) = Unit {0}
-Inside values octets first (ListAt s) = Within values octets first s
-
-abbrev pub AllInside : ℕ → ℕ → ℕ → List FlowSpecComponent → Type 0
+abbrev pub AllInside : ℕ → ℕ → ℕ → List Piece → Type 0
 AllInside values octets first [] = Unit {0}
-AllInside values octets first (c ∷ cs) = Inside values octets first (contentOf c) × AllInside values octets first cs
+AllInside values octets first (p ∷ ps) = Inside values octets first p × AllInside values octets first ps
 
 pub record Rankable (words : List ℕ) (at : ℕ) (values octets : List ℕ) : Type 0 where
   pub whole : at + 64 ≤ length words
   pub rule : isRule words at ≡ true
-  pub inside : AllInside (length values) (length octets) (storedAt words at .first) (storedAt words at .components)
-
--- the component that words name
-abbrev pub componentIn : Part → FlowSpecComponent
-componentIn (Is c) = c
-componentIn NoRecord = Nothing
+  pub inside : AllInside (length values) (length octets) (storedAt words at .head .first) (storedAt words at .pieces)

@@ -6,17 +6,18 @@
 // The functions with a `requires` are no entry points: whoever ranks rules has tested that they are rules and that their operators are within
 // the lent lists.
 ghost use mathlib.Core.Path.{_≡_};
-ghost use Prim.Native.Nat.{_+_, _≤_, min};
+ghost use mathlib.Core.Bool.{true};
+ghost use mathlib.Core.List.{List};
+ghost use Prim.Native.Nat.{ℕ, _+_, _≤_, min};
 ghost use lib.ListN.{length};
 ghost use Rattle.wide.specs.Numbers.{num};
 ghost use Rattle.operators.specs.Ops.{op, opsIn, listOctets};
-ghost use Rattle.stored.specs.Stored.{storedAt, partAt};
-ghost use Rattle.ranking.specs.Ranks.{Shares, lower, thenBy, firstOf, front, frontOf, rankPrefix, rankOctets, cutTo, rankOp, contentOf, spanOctets, comparedOf, rankContent, Within, Inside, rankPiece, pieceOf, componentIn, Rankable, rankOf};
+ghost use Rattle.stored.specs.Pieces.{isRecord, sameQuad, quadAt, pieceAt};
+ghost use Rattle.stored.specs.Stored.{storedAt};
+ghost use Rattle.ranking.specs.Ranks.{Shares, lower, thenBy, leadingBits, front, frontOf, rankPrefix, rankOctets, cutTo, rankOp, prefixed, compared, comparedList, comparedOf, rankCompared, Inside, Rankable, rankOf};
 use operators::Kind;
-use rules::FlowSpecComponent;
 use rules::NetworkPrefix;
-use rules::Span;
-use stored::Part;
+use stored::Piece;
 use wide::Wide;
 
 // What the first of two is to the second.
@@ -31,12 +32,6 @@ pub struct Front {
     pub offset: u8,
     pub length: u8,
     pub address: Wide,
-}
-
-// What is compared of a component.
-pub enum Content {
-    Prefix(NetworkPrefix),
-    List(Span),
 }
 
 pub fn compare_numbers(a: u64, b: u64) -> Order
@@ -82,7 +77,7 @@ pub fn shared_bits(a: Wide, b: Wide) -> u32
 
 // The first n bits of two addresses: where they are not shared, the addresses are in the order of these bits.
 pub fn compare_bits(a: Wide, b: Wide, n: usize) -> Order
-    ensures { λ r. ⌜ r ≡ lower (firstOf n (num a)) (firstOf n (num b)) ⌝ }
+    ensures { λ r. ⌜ r ≡ lower (leadingBits n (num a)) (leadingBits n (num b)) ⌝ }
 {
     if n <= shared_bits(a, b) as usize {
         return Order::Equal;
@@ -163,7 +158,7 @@ fn cut(octet: u8, value: u64) -> u64
 }
 
 // Equal octets name equal widths, so that the values are in the order of the octets that write them.
-pub fn compare_operators(kind: Kind, octet: u8, value: u64, octet2: u8, value2: u64) -> Order
+fn compare_written(kind: Kind, octet: u8, value: u64, octet2: u8, value2: u64) -> Order
     ensures { λ r. ⌜ r ≡ rankOp kind (op octet value) (op octet2 value2) ⌝ }
 {
     let octets = compare_numbers(
@@ -174,6 +169,16 @@ pub fn compare_operators(kind: Kind, octet: u8, value: u64, octet2: u8, value2: 
         octets,
         compare_numbers(cut(octet, value), cut(octet2, value2)),
     )
+}
+
+// Operators that are the same as they stand are equal, and most that are compared are: they are passed with nothing cleared or cut.
+pub fn compare_operators(kind: Kind, octet: u8, value: u64, octet2: u8, value2: u64) -> Order
+    ensures { λ r. ⌜ r ≡ rankOp kind (op octet value) (op octet2 value2) ⌝ }
+{
+    if (octet == octet2) & (value == value2) {
+        return Order::Equal;
+    }
+    compare_written(kind, octet, value, octet2, value2)
 }
 
 // The lists at so many places of the lent lists. No entry point.
@@ -212,127 +217,120 @@ pub fn compare_lists(
     compare_numbers(count2 as u64, count as u64)
 }
 
-fn content_of(component: FlowSpecComponent) -> Content
-    ensures { λ r. ⌜ r ≡ contentOf component ⌝ }
+// A prefix, and the piece that it is compared with.
+fn prefix_against(tag: u8, prefix: NetworkPrefix, other: Piece) -> Order
+    requires { ⌜ isRecord other ≡ true ⌝ }
+    ensures { λ r. ⌜ ((values octets : List ℕ) (first : ℕ) → r ≡ rankCompared (compared tag (prefixed prefix)) (comparedOf values octets first other)) ⌝ }
 {
-    match component {
-        FlowSpecComponent::Nothing => Content::List(Span { start: 0, count: 0 }),
-        FlowSpecComponent::DestinationPrefix(prefix) => Content::Prefix(prefix),
-        FlowSpecComponent::SourcePrefix(prefix) => Content::Prefix(prefix),
-        FlowSpecComponent::IpProtocol(span) => Content::List(span),
-        FlowSpecComponent::Port(span) => Content::List(span),
-        FlowSpecComponent::DestinationPort(span) => Content::List(span),
-        FlowSpecComponent::SourcePort(span) => Content::List(span),
-        FlowSpecComponent::IcmpType(span) => Content::List(span),
-        FlowSpecComponent::IcmpCode(span) => Content::List(span),
-        FlowSpecComponent::TcpFlags(span) => Content::List(span),
-        FlowSpecComponent::PacketLength(span) => Content::List(span),
-        FlowSpecComponent::Dscp(span) => Content::List(span),
-        FlowSpecComponent::Fragment(span) => Content::List(span),
-        FlowSpecComponent::FlowLabel(span) => Content::List(span),
+    match other {
+        Piece::Prefix {
+            tag: tag2,
+            prefix: prefix2,
+        } => match compare_numbers(tag as u64, tag2 as u64) {
+            Order::Precedes => Order::Precedes,
+            Order::Equal => compare_prefixes(prefix, prefix2),
+            Order::Follows => Order::Follows,
+        },
+        Piece::Operators {
+            tag: tag2,
+            start: _,
+            count: _,
+        } => then_by(compare_numbers(tag as u64, tag2 as u64), Order::Precedes),
+        Piece::NoRecord => Order::Precedes,
     }
 }
 
-// Two lists, each with the first place of its rule in its lent lists.
-fn compare_spans(
-    kind: Kind,
-    a: Span,
-    first: usize,
+// A list, and the piece that it is compared with, which has its operators from the first place of its rule on.
+fn list_against(
+    tag: u8,
     values: &[u64],
     octets: &[u8],
-    b: Span,
-    first2: usize,
+    start: usize,
+    count: usize,
+    other: Piece,
     values2: &[u64],
     octets2: &[u8],
-) -> Order
-    requires first { ⌜ Within (length (now values)) (length (now octets)) first a ⌝ }
-    requires second { ⌜ Within (length (now values2)) (length (now octets2)) first2 b ⌝ }
-    ensures { λ r. ⌜ r ≡ rankOctets (spanOctets (now (values .entry)) (now (octets .entry)) first kind a) (spanOctets (now (values2 .entry)) (now (octets2 .entry)) first2 kind b) ⌝ }
-{
-    compare_lists(
-        kind,
-        values,
-        octets,
-        first + a.start,
-        a.count,
-        values2,
-        octets2,
-        first2 + b.start,
-        b.count,
-    )
-}
-
-fn compare_contents(
-    kind: Kind,
-    a: Content,
-    first: usize,
-    values: &[u64],
-    octets: &[u8],
-    b: Content,
     first2: usize,
-    values2: &[u64],
-    octets2: &[u8],
 ) -> Order
-    requires first { ⌜ Inside (length (now values)) (length (now octets)) first a ⌝ }
-    requires second { ⌜ Inside (length (now values2)) (length (now octets2)) first2 b ⌝ }
-    ensures { λ r. ⌜ r ≡ rankContent (comparedOf (now (values .entry)) (now (octets .entry)) first kind a) (comparedOf (now (values2 .entry)) (now (octets2 .entry)) first2 kind b) ⌝ }
+    requires first { ⌜ (start + count ≤ length (now values)) × (start + count ≤ length (now octets)) ⌝ }
+    requires second { ⌜ Inside (length (now values2)) (length (now octets2)) first2 other ⌝ }
+    ensures { λ r. ⌜ r ≡ rankCompared (comparedList (now (values .entry)) (now (octets .entry)) tag start count) (comparedOf (now (values2 .entry)) (now (octets2 .entry)) first2 other) ⌝ }
 {
-    match a {
-        Content::Prefix(p) => match b {
-            Content::Prefix(q) => compare_prefixes(p, q),
-            Content::List(_) => Order::Precedes,
+    match other {
+        Piece::Operators {
+            tag: tag2,
+            start: start2,
+            count: count2,
+        } => match compare_numbers(tag as u64, tag2 as u64) {
+            Order::Precedes => Order::Precedes,
+            Order::Equal => compare_lists(
+                operators::kind_of(tag),
+                values,
+                octets,
+                start,
+                count,
+                values2,
+                octets2,
+                first2 + start2,
+                count2,
+            ),
+            Order::Follows => Order::Follows,
         },
-        Content::List(s) => match b {
-            Content::Prefix(_) => Order::Follows,
-            Content::List(t) => {
-                compare_spans(kind, s, first, values, octets, t, first2, values2, octets2)
-            }
-        },
+        Piece::Prefix {
+            tag: tag2,
+            prefix: _,
+        } => then_by(compare_numbers(tag as u64, tag2 as u64), Order::Follows),
+        Piece::NoRecord => Order::Follows,
     }
 }
 
+// Whether the four words of two components are the same.
+fn same_words(words: &[u64], at: usize, words2: &[u64], at2: usize) -> bool
+    requires { ⌜ (at + 4 ≤ length (now words)) × (at2 + 4 ≤ length (now words2)) ⌝ }
+    ensures { λ r. ⌜ r ≡ sameQuad (quadAt (now (words .entry)) at) (quadAt (now (words2 .entry)) at2) ⌝ }
+{
+    (words[at] == words2[at2])
+        & ((words[at + 1] == words2[at2 + 1])
+            & ((words[at + 2] == words2[at2 + 2]) & (words[at + 3] == words2[at2 + 3])))
+}
+
+// Two components where they stand. Prefixes of the same words are equal, and only the first of them is taken apart. Lists of the same words are
+// not: each counts its operators from its own rule's first place.
 fn compare_components(
-    a: FlowSpecComponent,
-    first: usize,
+    words: &[u64],
+    at: usize,
     values: &[u64],
     octets: &[u8],
-    b: FlowSpecComponent,
-    first2: usize,
+    first: usize,
+    words2: &[u64],
+    at2: usize,
     values2: &[u64],
     octets2: &[u8],
+    first2: usize,
 ) -> Order
-    requires first { ⌜ Inside (length (now values)) (length (now octets)) first (contentOf a) ⌝ }
-    requires second { ⌜ Inside (length (now values2)) (length (now octets2)) first2 (contentOf b) ⌝ }
-    ensures { λ r. ⌜ r ≡ rankPiece (pieceOf (now (values .entry)) (now (octets .entry)) first a) (pieceOf (now (values2 .entry)) (now (octets2 .entry)) first2 b) ⌝ }
+    requires first { ⌜ (at + 4 ≤ length (now words)) × Inside (length (now values)) (length (now octets)) first (pieceAt (now words) at) ⌝ }
+    requires second { ⌜ (at2 + 4 ≤ length (now words2)) × Inside (length (now values2)) (length (now octets2)) first2 (pieceAt (now words2) at2) ⌝ }
+    ensures { λ r. ⌜ r ≡ rankCompared (comparedOf (now (values .entry)) (now (octets .entry)) first (pieceAt (now (words .entry)) at)) (comparedOf (now (values2 .entry)) (now (octets2 .entry)) first2 (pieceAt (now (words2 .entry)) at2)) ⌝ }
 {
-    let code = a.component_type();
-    let code2 = b.component_type();
-    if code < code2 {
-        return Order::Precedes;
-    }
-    if code2 < code {
-        return Order::Follows;
-    }
-    compare_contents(
-        operators::kind_of(code),
-        content_of(a),
-        first,
-        values,
-        octets,
-        content_of(b),
-        first2,
-        values2,
-        octets2,
-    )
-}
-
-fn component_in(words: &[u64], at: usize) -> FlowSpecComponent
-    requires { ⌜ at + 4 ≤ length (now words) ⌝ }
-    ensures { λ r. ⌜ r ≡ componentIn (partAt (now (words .entry)) at) ⌝ }
-{
-    match stored::component_at(words, at) {
-        Part::Is(component) => component,
-        Part::NoRecord => FlowSpecComponent::Nothing,
+    match stored::piece_at(words, at) {
+        Piece::Prefix { tag, prefix } => {
+            if same_words(words, at, words2, at2) {
+                return Order::Equal;
+            }
+            prefix_against(tag, prefix, stored::piece_at(words2, at2))
+        }
+        Piece::Operators { tag, start, count } => list_against(
+            tag,
+            values,
+            octets,
+            first + start,
+            count,
+            stored::piece_at(words2, at2),
+            values2,
+            octets2,
+            first2,
+        ),
+        Piece::NoRecord => Order::Equal,
     }
 }
 
@@ -351,16 +349,25 @@ pub fn compare_rules(
     requires second { ⌜ Rankable (now words2) at2 (now values2) (now octets2) ⌝ }
     ensures { λ r. ⌜ r ≡ rankOf (now (values .entry)) (now (octets .entry)) (storedAt (now (words .entry)) at) (now (values2 .entry)) (now (octets2 .entry)) (storedAt (now (words2 .entry)) at2) ⌝ }
 {
-    let held = words[at + 52] as usize;
-    let held2 = words2[at2 + 52] as usize;
-    let first = words[at + 54] as usize;
-    let first2 = words2[at2 + 54] as usize;
+    let held = stored::count_at(words, at);
+    let held2 = stored::count_at(words2, at2);
+    let first = stored::first_at(words, at);
+    let first2 = stored::first_at(words2, at2);
     let both = shorter(held, held2);
     let mut i: usize = 0;
     while i < both {
-        let a = component_in(words, at + 4 * i);
-        let b = component_in(words2, at2 + 4 * i);
-        match compare_components(a, first, values, octets, b, first2, values2, octets2) {
+        match compare_components(
+            words,
+            at + 4 * i,
+            values,
+            octets,
+            first,
+            words2,
+            at2 + 4 * i,
+            values2,
+            octets2,
+            first2,
+        ) {
             Order::Precedes => {
                 return Order::Precedes;
             }

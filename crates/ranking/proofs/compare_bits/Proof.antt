@@ -1,6 +1,6 @@
 -- `ranking::compare_bits` meets its contract: the first n bits are shared, or in the order of the halves.
 use mathlib.Core.Path.{_∙_}
-use Rattle.ranking.proofs.Leading.{bits-shared, by-lows, by-highs}
+use Rattle.ranking.proofs.LeadingBits.{bits-shared, by-lows, by-highs}
 use borrow.Author.Needs.{needs}
 use Rattle.ranking.proofs.compare_bits.Statement.{statement}
 use Rattle.ranking.proofs.compare_bits.Tie as tie

@@ -1,68 +1,110 @@
--- `ranking::compare_components` meets its contract: by the types, then by the contents.
-use mathlib.Core.Path.{sym, subst}
+-- `ranking::compare_components` meets its contract: by the first piece, then by the second.
+use mathlib.Core.Path.{sym, ap, _∙_}
+use native.Mathlib.Omega.{arith}
 use lib.ListN.{length}
-use Rattle.ranking.specs.declared.Content.{Content}
-use Rattle.ranking.specs.Ranks.{Inside}
-use Rattle.ranking.proofs.Rules.{types-below, types-above, types-equal}
+use Rattle.stored.specs.Pieces.{isRecord, pieceAt}
+use Rattle.ranking.proofs.ComponentsInTurn.{both-told, same-prefix, inside-record, inside-told}
 use borrow.Author.Needs.{needs}
 use Rattle.ranking.proofs.compare_components.Statement.{statement}
 use Rattle.ranking.proofs.compare_components.Tie as tie
 
-component-type-requires : tie.Need-component-type-requires
-component-type-requires c κs = search needs
+piece-at-requires : tie.Need-piece-at-requires
+piece-at-requires c κs = search needs
 
-component-type-requires-2 : tie.Need-component-type-requires-2
-component-type-requires-2 c κs = search needs
+enum-known-tag : tie.Need-enum-known-tag
+enum-known-tag c = search needs
+
+same-words-requires : tie.Need-same-words-requires
+same-words-requires c κs = search needs
 
 returns : tie.Need-returns
 returns c =
+    let t = c .before .before .before in
+    let a = t .before .before in
+    let g = a .before .before .before .before .before .before .before .args in
+    same-prefix (g .values .now) (g .octets .now) (g .first) (g .values2 .now) (g .octets2 .now) (g .first2) (g .words .now) (g .at) (g .words2 .now) (g .at2) _ _
+    (sym (a .piece-at .ensures) ∙ t .tag .given .1) (sym (c .before .same-words .ensures) ∙ c .if1 .taken)
+
+piece-at-requires-2 : tie.Need-piece-at-requires-2
+piece-at-requires-2 c κs = search needs
+
+prefix-against-requires : tie.Need-prefix-against-requires
+prefix-against-requires c κs =
+    let a = c .before .before .before .before .before .before in
+    let s = a .before .before .before .before .before .before .before in
+    let g = s .args in
+    ap isRecord (c .piece-at2 .ensures) ∙ inside-record (length (g .values2 .now)) (length (g .octets2 .now)) (g .first2) (pieceAt (g .words2 .now) (g .at2)) (s .pre .1 .1)
+
+enum-known-tag-2 : tie.Need-enum-known-tag-2
+enum-known-tag-2 c = search needs
+
+add-list-against : tie.Need-add-list-against
+add-list-against c =
     let t = c .before in
-    let g = c .before .before .before .before .before .before .before .args in
-    types-below (g .values .now) (g .octets .now) (g .first) (g .values2 .now) (g .octets2 .now) (g .first2) (g .a) (g .b) _ _ (t .before .component-type .ensures) (t .component-type2 .ensures) (c .if1 .taken)
+    let a = t .before .before in
+    let s = a .before .before .before .before .before .before .before in
+    let g = s .args in
+    let i = inside-told (length (g .values .now)) (length (g .octets .now)) (g .first) (pieceAt (g .words .now) (g .at)) _ (sym (a .piece-at .ensures) ∙ t .tag2 .given .1) (s .pre .0 .1) in
+    omega (arith, i .0)
+
+piece-at-requires-3 : tie.Need-piece-at-requires-3
+piece-at-requires-3 c κs = search needs
+
+list-against-requires : tie.Need-list-against-requires
+list-against-requires c κs =
+    let t = c .before .before in
+    let a = t .before .before in
+    let s = a .before .before .before .before .before .before .before in
+    let g = s .args in (
+      inside-told (length (g .values .now)) (length (g .octets .now)) (g .first) (pieceAt (g .words .now) (g .at)) _ (sym (a .piece-at .ensures) ∙ t .tag2 .given .1) (s .pre .0 .1),
+      inside-told (length (g .values2 .now)) (length (g .octets2 .now)) (g .first2) (pieceAt (g .words2 .now) (g .at2)) _ (sym (c .piece-at3 .ensures)) (s .pre .1 .1),
+    )
+
+enum-told : tie.Need-enum-told
+enum-told c = search needs
 
 returns-2 : tie.Need-returns-2
 returns-2 c =
-    let t = c .before .before in
-    let g = c .before .before .before .before .before .before .before .before .args in
-    types-above (g .values .now) (g .octets .now) (g .first) (g .values2 .now) (g .octets2 .now) (g .first2) (g .a) (g .b) _ _ (t .before .component-type .ensures) (t .component-type2 .ensures) (c .if2 .taken)
-
-kind-of-requires : tie.Need-kind-of-requires
-kind-of-requires c κs = search needs
-
-content-of-requires : tie.Need-content-of-requires
-content-of-requires c κs = search needs
-
-content-of-requires-2 : tie.Need-content-of-requires-2
-content-of-requires-2 c κs = search needs
-
-compare-contents-requires : tie.Need-compare-contents-requires
-compare-contents-requires c κs =
-    let s = c .before .before .before .before .before .before .before .before .before .before .before in
-    let g = s .args in (
-      subst (λ (x : Content). Inside (length (g .values .now)) (length (g .octets .now)) (g .first) x) (sym (c .before .content-of .ensures)) (s .pre .0),
-      subst (λ (x : Content). Inside (length (g .values2 .now)) (length (g .octets2 .now)) (g .first2) x) (sym (c .content-of2 .ensures)) (s .pre .1),
-    )
+    let b = c .before in
+    let t = b .before .before .before .before in
+    let a = t .before .before in
+    let g = a .before .before .before .before .before .before .before .args in
+    c .prefix-against .ensures (g .values2 .now) (g .octets2 .now) (g .first2)
+    ∙ both-told (g .values .now) (g .octets .now) (g .first) (g .values2 .now) (g .octets2 .now) (g .first2) _ _ (pieceAt (g .words .now) (g .at)) (pieceAt (g .words2 .now) (g .at2))
+    (sym (a .piece-at .ensures) ∙ t .tag .given .1) (sym (b .piece-at2 .ensures))
 
 returns-3 : tie.Need-returns-3
 returns-3 c =
-    let u = c .before in
-    let k = u .before .before in
-    let e = k .before in
-    let t = e .before .before in
-    let g = t .before .before .before .before .before .before .args in
-    types-equal (g .values .now) (g .octets .now) (g .first) (g .values2 .now) (g .octets2 .now) (g .first2) (g .a) (g .b) _ _ (t .before .component-type .ensures) (t .component-type2 .ensures) (e .before .if1 .left) (e .if2 .left)
-    _ _ _ _ (k .kind-of .ensures) (u .before .content-of .ensures) (u .content-of2 .ensures) (c .compare-contents .ensures)
+    let b = c .before in
+    let t = b .before .before in
+    let a = t .before .before in
+    let g = a .before .before .before .before .before .before .before .args in
+    c .list-against .ensures
+    ∙ both-told (g .values .now) (g .octets .now) (g .first) (g .values2 .now) (g .octets2 .now) (g .first2) _ _ (pieceAt (g .words .now) (g .at)) (pieceAt (g .words2 .now) (g .at2))
+    (sym (a .piece-at .ensures) ∙ t .tag2 .given .1) (sym (b .piece-at3 .ensures))
+
+returns-4 : tie.Need-returns-4
+returns-4 c =
+    let a = c .before .before in
+    let s = a .before .before .before .before .before .before .before in
+    let g = s .args in
+    absurd (inside-told (length (g .values .now)) (length (g .octets .now)) (g .first) (pieceAt (g .words .now) (g .at)) _ (sym (a .piece-at .ensures) ∙ c .enum-told .given .1) (s .pre .0 .1))
 
 pub compare-components-spec : {M : Type 1} → statement M
 compare-components-spec =
     tie.close
     (tie.spec
-    component-type-requires
-    component-type-requires-2
+    piece-at-requires
+    enum-known-tag
+    same-words-requires
     returns
+    piece-at-requires-2
+    prefix-against-requires
+    enum-known-tag-2
+    add-list-against
+    piece-at-requires-3
+    list-against-requires
+    enum-told
     returns-2
-    kind-of-requires
-    content-of-requires
-    content-of-requires-2
-    compare-contents-requires
-    returns-3)
+    returns-3
+    returns-4)

@@ -1,19 +1,17 @@
--- `ranking::compare_lists` meets its contract. The invariant: the order of the two lists is that of what is left of them after i operators.
+-- `ranking::compare_lists` meets its contract. The invariant: the first i operators of each rank equal.
 use mathlib.Core.Path.{_≡_, sym, _∙_}
 use Prim.Native.Nat.{_-_, _≤_}
 use borrow.Author.Needs.{needs}
 use native.Mathlib.Omega.{arith}
 use native.Mathlib.Nat.{min-le-left, min-le-right}
-use Rattle.operators.specs.Ops.{opsIn, listOctets}
-use Rattle.ranking.specs.Ranks.{rankOctets, rankOp}
-use Rattle.ranking.proofs.Turns.{rest}
-use Rattle.ranking.proofs.Octets.{ops-first, ops-end, ops-turn}
+use Rattle.ranking.specs.Ranks.{lower}
+use Rattle.ranking.proofs.OperatorsInTurn.{OperatorsPassed, no-operators, operators-end, operators-equal, operators-tell}
 use Rattle.ranking.proofs.compare_lists.Statement.{statement}
 use Rattle.ranking.proofs.compare_lists.Tie as tie
 
 abbrev Inv-loop : tie.InvT-loop
 Inv-loop kind values octets start count values2 octets2 start2 count2 both i₀ i =
-    (both ≤ count) × (both ≤ count2) × (i ≤ both) × (rankOctets (listOctets kind (opsIn values octets start count)) (listOctets kind (opsIn values2 octets2 start2 count2)) ≡ rest (rankOp kind) (opsIn values octets start count) (opsIn values2 octets2 start2 count2) i)
+    (both ≤ count) × (both ≤ count2) × (i ≤ both) × OperatorsPassed kind values octets start count values2 octets2 start2 count2 i
 
 abbrev μ-loop : tie.MeasureT-loop
 μ-loop kind values octets start count values2 octets2 start2 count2 both i₀ i = both - i
@@ -24,7 +22,7 @@ shorter-requires c κs = search needs
 loop-holds : tie.Need-loop-holds Inv-loop μ-loop
 loop-holds c =
     let g = c .before .before .before .before .before .args in
-    (omega (arith, min-le-left (g .count) (g .count2)), omega (arith, min-le-right (g .count) (g .count2)), omega arith, ops-first (g .kind) (g .values .now) (g .octets .now) (g .start) (g .count) (g .values2 .now) (g .octets2 .now) (g .start2) (g .count2))
+    (omega (arith, min-le-left (g .count) (g .count2)), omega (arith, min-le-right (g .count) (g .count2)), omega arith, no-operators)
 
 add-p : tie.Need-add-p Inv-loop μ-loop
 add-p c = search needs
@@ -62,14 +60,8 @@ enum-told c = search needs
 returns : tie.Need-returns Inv-loop μ-loop
 returns c =
     let a = c .before .before in
-    let e = a .before .before .before .before .before in
-    let l = e .before in
-    let b = l .before in
-    let g = b .before .before .before .before .before .args in
-    let t =
-    l .loop .inv .3
-    ∙ ops-turn (g .kind) (g .values .now) (g .octets .now) (g .start) (g .count) (g .values2 .now) (g .octets2 .now) (g .start2) (g .count2) _ (b .shorter .ensures) (l .loop .i) (e .loop-test .taken) _ (sym (a .compare-operators .ensures) ∙ c .enum-told .given .1) in
-    sym t
+    let l = a .before .before .before .before .before .before in
+    sym (operators-tell (l .loop .inv .3) (omega arith) (omega arith) _ (sym (a .compare-operators .ensures) ∙ c .enum-told .given .1))
 
 enum-told-2 : tie.Need-enum-told-2 Inv-loop μ-loop
 enum-told-2 c = search needs
@@ -77,14 +69,8 @@ enum-told-2 c = search needs
 returns-2 : tie.Need-returns-2 Inv-loop μ-loop
 returns-2 c =
     let a = c .before .before in
-    let e = a .before .before .before .before .before in
-    let l = e .before in
-    let b = l .before in
-    let g = b .before .before .before .before .before .args in
-    let t =
-    l .loop .inv .3
-    ∙ ops-turn (g .kind) (g .values .now) (g .octets .now) (g .start) (g .count) (g .values2 .now) (g .octets2 .now) (g .start2) (g .count2) _ (b .shorter .ensures) (l .loop .i) (e .loop-test .taken) _ (sym (a .compare-operators .ensures) ∙ c .enum-told2 .given .1) in
-    sym t
+    let l = a .before .before .before .before .before .before in
+    sym (operators-tell (l .loop .inv .3) (omega arith) (omega arith) _ (sym (a .compare-operators .ensures) ∙ c .enum-told2 .given .1))
 
 enum-told-3 : tie.Need-enum-told-3 Inv-loop μ-loop
 enum-told-3 c = search needs
@@ -98,14 +84,8 @@ loop-less c = search needs
 loop-again : tie.Need-loop-again Inv-loop μ-loop
 loop-again c =
     let a = c .before .before in
-    let e = a .before .before .before .before .before in
-    let l = e .before in
-    let b = l .before in
-    let g = b .before .before .before .before .before .args in
-    let t =
-    l .loop .inv .3
-    ∙ ops-turn (g .kind) (g .values .now) (g .octets .now) (g .start) (g .count) (g .values2 .now) (g .octets2 .now) (g .start2) (g .count2) _ (b .shorter .ensures) (l .loop .i) (e .loop-test .taken) _ (sym (a .compare-operators .ensures) ∙ c .enum-told3 .given .1) in
-    (l .loop .inv .0, l .loop .inv .1, omega arith, t)
+    let l = a .before .before .before .before .before .before in
+    (l .loop .inv .0, l .loop .inv .1, omega arith, operators-equal (l .loop .inv .3) (omega arith) (omega arith) (sym (a .compare-operators .ensures) ∙ c .enum-told3 .given .1))
 
 compare-numbers-requires : tie.Need-compare-numbers-requires Inv-loop μ-loop
 compare-numbers-requires c κs = search needs
@@ -113,9 +93,9 @@ compare-numbers-requires c κs = search needs
 returns-3 : tie.Need-returns-3 Inv-loop μ-loop
 returns-3 c =
     let l = c .before .before in
-    let b = l .before in
-    let g = b .before .before .before .before .before .args in
-    c .compare-numbers .ensures ∙ sym (l .loop .inv .3 ∙ ops-end (g .kind) (g .values .now) (g .octets .now) (g .start) (g .count) (g .values2 .now) (g .octets2 .now) (g .start2) (g .count2) _ (b .shorter .ensures) (l .loop .i) (l .loop .inv .2) (c .before .loop-test .left))
+    let g = l .before .before .before .before .before .before .args in
+    let longer : c .compare-numbers .result ≡ lower (g .count2) (g .count) = c .compare-numbers .ensures in
+    longer ∙ sym (operators-end (l .loop .inv .3) (omega (arith, l .before .shorter .ensures)) (omega (arith, l .before .shorter .ensures)))
 
 pub compare-lists-spec : {M : Type 1} → statement M
 compare-lists-spec =

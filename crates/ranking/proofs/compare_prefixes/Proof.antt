@@ -1,8 +1,8 @@
 -- `ranking::compare_prefixes` meets its contract.
-use mathlib.Core.Path.{ap, ap₂, _∙_}
+use mathlib.Core.Path.{_≡_, ap, ap₂, _∙_}
 use Prim.Native.Nat.{ℕ}
 use Rattle.ranking.specs.declared.Front.{Front}
-use Rattle.ranking.specs.Ranks.{lower, thenBy, firstOf, rankBits, rankFront}
+use Rattle.ranking.specs.Ranks.{lower, thenBy, leadingBits, rankFront}
 use Rattle.wide.specs.Numbers.{num}
 use borrow.Author.Needs.{needs}
 use Rattle.ranking.proofs.compare_prefixes.Statement.{statement}
@@ -51,7 +51,7 @@ then-by-requires-2 : tie.Need-then-by-requires-2
 then-by-requires-2 c κs = search needs
 
 returns : tie.Need-returns
-unfolding rankBits rankFront
+unfolding rankFront
 returns c =
     let t = c .before in
     let l = t .before in
@@ -60,9 +60,10 @@ returns c =
     let o = s .before .before .before in
     let g = o .before .before .before in
     let f = g .before in
+    let after : t .then-by .result ≡ thenBy (b .compare-bits .result) (l .compare-numbers2 .result) = t .then-by .ensures in
     c .then-by2 .ensures
     ∙ ap₂ thenBy (o .compare-numbers .ensures)
-    (t .then-by .ensures ∙ ap₂ thenBy (b .compare-bits .ensures ∙ ap (λ (n : ℕ). lower (firstOf n (num (f .front-of .result .address))) (firstOf n (num (g .front-of2 .result .address)))) (s .shorter .ensures)) (l .compare-numbers2 .ensures))
+    (after ∙ ap₂ thenBy (b .compare-bits .ensures ∙ ap (λ (n : ℕ). lower (leadingBits n (num (f .front-of .result .address))) (leadingBits n (num (g .front-of2 .result .address)))) (s .shorter .ensures)) (l .compare-numbers2 .ensures))
     ∙ ap₂ (λ (x y : Front). rankFront x y) (f .front-of .ensures) (g .front-of2 .ensures)
 
 pub compare-prefixes-spec : {M : Type 1} → statement M

@@ -1,118 +1,69 @@
--- `ranking::compare_rules` meets its contract. The invariant: the order of the two rules is that of what is left of them after i components.
+-- `ranking::compare_rules` meets its contract. The invariant: the first i components of each rank equal.
 use mathlib.Core.Path.{_≡_, sym, _∙_}
-use Prim.Native.Nat.{_+_, _-_, _≤_, _<_}
+use Prim.Native.Nat.{_-_, _≤_}
 use borrow.Author.Needs.{needs}
 use native.Mathlib.Omega.{arith}
 use native.Mathlib.Nat.{min-le-left, min-le-right}
-use lib.ListN.{getD}
-use Rattle.stored.specs.Stored.{storedAt}
-use Rattle.ranking.specs.Ranks.{piecesOf, rankPiece, rankOf}
-use Rattle.ranking.proofs.Turns.{rest}
-use Rattle.ranking.proofs.Rules.{few, inside-here, rules-first, rules-end, rules-turn}
+use Rattle.ranking.specs.Ranks.{lower}
+use Rattle.ranking.proofs.ComponentsInTurn.{Begun, few, inside-at, ComponentsPassed, no-components, components-end, components-tell, components-equal}
 use Rattle.ranking.proofs.compare_rules.Statement.{statement}
 use Rattle.ranking.proofs.compare_rules.Tie as tie
 
 abbrev Inv-loop : tie.InvT-loop
 Inv-loop words at values octets words2 at2 values2 octets2 held held2 first first2 both i₀ i =
-    (both ≤ held) × (both ≤ held2) × (i ≤ both) × (rankOf values octets (storedAt words at) values2 octets2 (storedAt words2 at2) ≡ rest rankPiece (piecesOf values octets (storedAt words at)) (piecesOf values2 octets2 (storedAt words2 at2)) i)
+    (both ≤ held) × (both ≤ held2) × (both ≤ 13) × (i ≤ both) × Begun words at values octets held first × Begun words2 at2 values2 octets2 held2 first2
+    × ComponentsPassed words at values octets words2 at2 values2 octets2 i
 
 abbrev μ-loop : tie.MeasureT-loop
 μ-loop words at values octets words2 at2 values2 octets2 held held2 first first2 both i₀ i = both - i
 
-add-held : tie.Need-add-held Inv-loop μ-loop
-add-held c = search needs
+count-at-requires : tie.Need-count-at-requires Inv-loop μ-loop
+count-at-requires c κs = search needs
 
-mul-held : tie.Need-mul-held Inv-loop μ-loop
-mul-held c = search needs
+count-at-requires-2 : tie.Need-count-at-requires-2 Inv-loop μ-loop
+count-at-requires-2 c κs = search needs
 
-shared-slice-read-held : tie.Need-shared-slice-read-held Inv-loop μ-loop
-shared-slice-read-held c = search needs
+first-at-requires : tie.Need-first-at-requires Inv-loop μ-loop
+first-at-requires c κs = search needs
 
-add-held2 : tie.Need-add-held2 Inv-loop μ-loop
-add-held2 c = search needs
-
-mul-held2 : tie.Need-mul-held2 Inv-loop μ-loop
-mul-held2 c = search needs
-
-shared-slice-read-held2 : tie.Need-shared-slice-read-held2 Inv-loop μ-loop
-shared-slice-read-held2 c = search needs
-
-add-first : tie.Need-add-first Inv-loop μ-loop
-add-first c = search needs
-
-mul-first : tie.Need-mul-first Inv-loop μ-loop
-mul-first c = search needs
-
-shared-slice-read-first : tie.Need-shared-slice-read-first Inv-loop μ-loop
-shared-slice-read-first c = search needs
-
-add-first2 : tie.Need-add-first2 Inv-loop μ-loop
-add-first2 c = search needs
-
-mul-first2 : tie.Need-mul-first2 Inv-loop μ-loop
-mul-first2 c = search needs
-
-shared-slice-read-first2 : tie.Need-shared-slice-read-first2 Inv-loop μ-loop
-shared-slice-read-first2 c = search needs
+first-at-requires-2 : tie.Need-first-at-requires-2 Inv-loop μ-loop
+first-at-requires-2 c κs = search needs
 
 shorter-requires : tie.Need-shorter-requires Inv-loop μ-loop
 shorter-requires c κs = search needs
 
 loop-holds : tie.Need-loop-holds Inv-loop μ-loop
 loop-holds c =
-    let g = c .before .before .before .before .before .before .before .before .before .before .before .args in
-    let n = getD (g .words .now) (g .at + 52) 0 in
-    let m = getD (g .words2 .now) (g .at2 + 52) 0 in
-    (omega (arith, min-le-left n m), omega (arith, min-le-right n m), omega arith, rules-first (g .words .now) (g .at) (g .values .now) (g .octets .now) (g .words2 .now) (g .at2) (g .values2 .now) (g .octets2 .now))
-
-mul-component-in : tie.Need-mul-component-in Inv-loop μ-loop
-mul-component-in c =
-    let s = c .before .before .before .before .before .before .before .before .before .before .before .before .before in
+    let f2 = c .before in
+    let f = f2 .before in
+    let n2 = f .before in
+    let n = n2 .before in
+    let s = n .before .before .before .before .before .before .before in
     let g = s .args in
-    omega (arith, few (g .words .now) (g .at) (g .values .now) (g .octets .now) (s .pre .0))
+    let w : Begun (g .words .now) (g .at) (g .values .now) (g .octets .now) (n .count-at .result) (f .first-at .result) = record { rankable = s .pre .0; counted = n .count-at .ensures; begins = f .first-at .ensures } in
+    let w2 : Begun (g .words2 .now) (g .at2) (g .values2 .now) (g .octets2 .now) (n2 .count-at2 .result) (f2 .first-at2 .result) = record { rankable = s .pre .1; counted = n2 .count-at2 .ensures; begins = f2 .first-at2 .ensures } in
+    let l = min-le-left (n .count-at .result) (n2 .count-at2 .result) in
+    let m = min-le-right (n .count-at .result) (n2 .count-at2 .result) in
+    (omega arith, omega arith, omega (arith, few w), omega arith, w, w2, no-components)
 
-add-component-in : tie.Need-add-component-in Inv-loop μ-loop
-add-component-in c =
-    let s = c .before .before .before .before .before .before .before .before .before .before .before .before .before in
-    let g = s .args in
-    omega (arith, few (g .words .now) (g .at) (g .values .now) (g .octets .now) (s .pre .0))
+mul-compare-components : tie.Need-mul-compare-components Inv-loop μ-loop
+mul-compare-components c = search needs
 
-component-in-requires : tie.Need-component-in-requires Inv-loop μ-loop
-component-in-requires c κs =
-    let s = c .before .before .before .before .before .before .before .before .before .before .before .before .before in
-    let g = s .args in
-    omega (arith, few (g .words .now) (g .at) (g .values .now) (g .octets .now) (s .pre .0))
+add-compare-components : tie.Need-add-compare-components Inv-loop μ-loop
+add-compare-components c = search needs
 
-mul-component-in-2 : tie.Need-mul-component-in-2 Inv-loop μ-loop
-mul-component-in-2 c =
-    let s = c .before .before .before .before .before .before .before .before .before .before .before .before .before .before in
-    let g = s .args in
-    omega (arith, few (g .words2 .now) (g .at2) (g .values2 .now) (g .octets2 .now) (s .pre .1))
+mul-compare-components-2 : tie.Need-mul-compare-components-2 Inv-loop μ-loop
+mul-compare-components-2 c = search needs
 
-add-component-in-2 : tie.Need-add-component-in-2 Inv-loop μ-loop
-add-component-in-2 c =
-    let s = c .before .before .before .before .before .before .before .before .before .before .before .before .before .before in
-    let g = s .args in
-    omega (arith, few (g .words2 .now) (g .at2) (g .values2 .now) (g .octets2 .now) (s .pre .1))
-
-component-in-requires-2 : tie.Need-component-in-requires-2 Inv-loop μ-loop
-component-in-requires-2 c κs =
-    let s = c .before .before .before .before .before .before .before .before .before .before .before .before .before .before in
-    let g = s .args in
-    omega (arith, few (g .words2 .now) (g .at2) (g .values2 .now) (g .octets2 .now) (s .pre .1))
+add-compare-components-2 : tie.Need-add-compare-components-2 Inv-loop μ-loop
+add-compare-components-2 c = search needs
 
 compare-components-requires : tie.Need-compare-components-requires Inv-loop μ-loop
 compare-components-requires c κs =
-    let u = c .before in
-    let e = u .before in
-    let l = e .before in
-    let s = l .before .before .before .before .before .before .before .before .before .before .before .before in
-    let g = s .args in
-    let x : l .loop .i < getD (g .words .now) (g .at + 52) 0 = omega arith in
-    let y : l .loop .i < getD (g .words2 .now) (g .at2 + 52) 0 = omega arith in (
-      inside-here (g .words .now) (g .at) (g .values .now) (g .octets .now) (s .pre .0) (l .loop .i) x _ (u .component-in .ensures),
-      inside-here (g .words2 .now) (g .at2) (g .values2 .now) (g .octets2 .now) (s .pre .1) (l .loop .i) y _ (c .component-in2 .ensures),
-    )
+    let l = c .before in
+    let w = l .loop .inv .4 in
+    let w2 = l .loop .inv .5 in
+    ((omega (arith, w .rankable .whole), inside-at w _ (omega arith)), (omega (arith, w2 .rankable .whole), inside-at w2 _ (omega arith)))
 
 enum-told : tie.Need-enum-told Inv-loop μ-loop
 enum-told c = search needs
@@ -120,18 +71,8 @@ enum-told c = search needs
 returns : tie.Need-returns Inv-loop μ-loop
 returns c =
     let a = c .before .before in
-    let v = a .before in
-    let u = v .before in
-    let e = u .before in
-    let l = e .before in
-    let b = l .before in
-    let s = b .before .before .before .before .before .before .before .before .before .before .before in
-    let g = s .args in
-    let t =
-    l .loop .inv .3
-    ∙ rules-turn (g .words .now) (g .at) (g .values .now) (g .octets .now) (g .words2 .now) (g .at2) (g .values2 .now) (g .octets2 .now) (s .pre .0) (s .pre .1) _ (b .shorter .ensures) (l .loop .i) (e .loop-test .taken)
-    _ _ (u .component-in .ensures) (v .component-in2 .ensures) _ (sym (a .compare-components .ensures) ∙ c .enum-told .given .1) in
-    sym t
+    let v = a .before .before .loop .inv in
+    sym (components-tell (v .4) (v .5) (v .6) (omega arith) (omega arith) _ (sym (a .compare-components .ensures) ∙ c .enum-told .given .1))
 
 enum-told-2 : tie.Need-enum-told-2 Inv-loop μ-loop
 enum-told-2 c = search needs
@@ -139,27 +80,14 @@ enum-told-2 c = search needs
 returns-2 : tie.Need-returns-2 Inv-loop μ-loop
 returns-2 c =
     let a = c .before .before in
-    let v = a .before in
-    let u = v .before in
-    let e = u .before in
-    let l = e .before in
-    let b = l .before in
-    let s = b .before .before .before .before .before .before .before .before .before .before .before in
-    let g = s .args in
-    let t =
-    l .loop .inv .3
-    ∙ rules-turn (g .words .now) (g .at) (g .values .now) (g .octets .now) (g .words2 .now) (g .at2) (g .values2 .now) (g .octets2 .now) (s .pre .0) (s .pre .1) _ (b .shorter .ensures) (l .loop .i) (e .loop-test .taken)
-    _ _ (u .component-in .ensures) (v .component-in2 .ensures) _ (sym (a .compare-components .ensures) ∙ c .enum-told2 .given .1) in
-    sym t
+    let v = a .before .before .loop .inv in
+    sym (components-tell (v .4) (v .5) (v .6) (omega arith) (omega arith) _ (sym (a .compare-components .ensures) ∙ c .enum-told2 .given .1))
 
 enum-told-3 : tie.Need-enum-told-3 Inv-loop μ-loop
 enum-told-3 c = search needs
 
 add-i : tie.Need-add-i Inv-loop μ-loop
-add-i c =
-    let s = c .before .before .before .before .before .before .before .before .before .before .before .before .before .before .before .before .before .before in
-    let g = s .args in
-    omega (arith, few (g .words .now) (g .at) (g .values .now) (g .octets .now) (s .pre .0))
+add-i c = search needs
 
 loop-less : tie.Need-loop-less Inv-loop μ-loop
 loop-less c = search needs
@@ -167,18 +95,8 @@ loop-less c = search needs
 loop-again : tie.Need-loop-again Inv-loop μ-loop
 loop-again c =
     let a = c .before .before in
-    let v = a .before in
-    let u = v .before in
-    let e = u .before in
-    let l = e .before in
-    let b = l .before in
-    let s = b .before .before .before .before .before .before .before .before .before .before .before in
-    let g = s .args in
-    let t =
-    l .loop .inv .3
-    ∙ rules-turn (g .words .now) (g .at) (g .values .now) (g .octets .now) (g .words2 .now) (g .at2) (g .values2 .now) (g .octets2 .now) (s .pre .0) (s .pre .1) _ (b .shorter .ensures) (l .loop .i) (e .loop-test .taken)
-    _ _ (u .component-in .ensures) (v .component-in2 .ensures) _ (sym (a .compare-components .ensures) ∙ c .enum-told3 .given .1) in
-    (l .loop .inv .0, l .loop .inv .1, omega arith, t)
+    let v = a .before .before .loop .inv in
+    (v .0, v .1, v .2, omega arith, v .4, v .5, components-equal (v .4) (v .5) (v .6) (omega arith) (omega arith) (sym (a .compare-components .ensures) ∙ c .enum-told3 .given .1))
 
 compare-numbers-requires : tie.Need-compare-numbers-requires Inv-loop μ-loop
 compare-numbers-requires c κs = search needs
@@ -186,10 +104,11 @@ compare-numbers-requires c κs = search needs
 returns-3 : tie.Need-returns-3 Inv-loop μ-loop
 returns-3 c =
     let l = c .before .before in
-    let b = l .before in
-    let s = b .before .before .before .before .before .before .before .before .before .before .before in
-    let g = s .args in
-    c .compare-numbers .ensures ∙ sym (l .loop .inv .3 ∙ rules-end (g .words .now) (g .at) (g .values .now) (g .octets .now) (g .words2 .now) (g .at2) (g .values2 .now) (g .octets2 .now) (s .pre .0) (s .pre .1) _ (b .shorter .ensures) (l .loop .i) (l .loop .inv .2) (c .before .loop-test .left))
+    let v = l .loop .inv in
+    let e = l .before .shorter .ensures in
+    let n2 = l .before .before .before .before in
+    let more : c .compare-numbers .result ≡ lower (n2 .count-at2 .result) (n2 .before .count-at .result) = c .compare-numbers .ensures in
+    more ∙ sym (components-end (v .4) (v .5) (v .6) (omega arith) (omega arith))
 
 pub compare-rules-spec : {M : Type 1} → statement M
 compare-rules-spec =
@@ -197,26 +116,16 @@ compare-rules-spec =
     (tie.spec
     Inv-loop
     μ-loop
-    add-held
-    mul-held
-    shared-slice-read-held
-    add-held2
-    mul-held2
-    shared-slice-read-held2
-    add-first
-    mul-first
-    shared-slice-read-first
-    add-first2
-    mul-first2
-    shared-slice-read-first2
+    count-at-requires
+    count-at-requires-2
+    first-at-requires
+    first-at-requires-2
     shorter-requires
     loop-holds
-    mul-component-in
-    add-component-in
-    component-in-requires
-    mul-component-in-2
-    add-component-in-2
-    component-in-requires-2
+    mul-compare-components
+    add-compare-components
+    mul-compare-components-2
+    add-compare-components-2
     compare-components-requires
     enum-told
     returns

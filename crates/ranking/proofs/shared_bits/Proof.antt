@@ -3,7 +3,7 @@ use Prim.Native.Nat.{ℕ, _+_}
 use mathlib.Core.Path.{subst}
 use Rattle.wide.specs.Numbers.{wide}
 use Rattle.ranking.specs.Ranks.{Shares}
-use Rattle.ranking.proofs.Leading.{same-upper, other-upper}
+use Rattle.ranking.proofs.LeadingBits.{same-upper, other-upper}
 use borrow.Author.Needs.{needs}
 use Rattle.ranking.proofs.shared_bits.Statement.{statement}
 use Rattle.ranking.proofs.shared_bits.Tie as tie

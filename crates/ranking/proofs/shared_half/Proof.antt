@@ -1,5 +1,5 @@
 -- `ranking::shared_half` meets its contract.
-use Rattle.ranking.proofs.Leading.{shares}
+use Rattle.ranking.proofs.LeadingBits.{shares}
 use Rattle.ranking.proofs.shared_half.Statement.{statement}
 use Rattle.ranking.proofs.shared_half.Tie as tie
 

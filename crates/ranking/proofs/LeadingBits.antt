@@ -13,7 +13,7 @@ use Rattle.ground.proofs.Powers.{down-part}
 use Rattle.wide.specs.Numbers.{wide}
 use Rattle.wide.proofs.Halves.{past}
 use Rattle.ranking.specs.declared.Order.the-variants.{Equal}
-use Rattle.ranking.specs.Ranks.{Shares, lower, firstOf}
+use Rattle.ranking.specs.Ranks.{Shares, lower, leadingBits}
 use Rattle.ranking.proofs.Orders.{Way, below, equal, above, way, low-below, low-equal, low-above}
 
 -- the first n of the k bits of a number
@@ -108,28 +108,28 @@ other-upper ah al bh bl s ha hb d g = record {
 
 -- ---- the order of the first n bits
 
-pub bits-shared : (a b r n : ℕ) → Shares 128 a b r → n ≤ r → Equal ≡ lower (firstOf n a) (firstOf n b)
-bits-shared a b r n s h = sym (low-equal (firstOf n a) (firstOf n b) (s .same n h))
+pub bits-shared : (a b r n : ℕ) → Shares 128 a b r → n ≤ r → Equal ≡ lower (leadingBits n a) (leadingBits n b)
+bits-shared a b r n s h = sym (low-equal (leadingBits n a) (leadingBits n b) (s .same n h))
 
 -- past the last bit there is nothing more
-all-bits : (a n : ℕ) → 128 < n → firstOf n a ≡ a
+all-bits : (a n : ℕ) → 128 < n → leadingBits n a ≡ a
 all-bits a n h = let e : 128 - n ≡ 0 = omega arith in ap (λ (j : ℕ). a / 2 ^ j) e ∙ div-one a
 
-differ : (a b r n : ℕ) → Shares 128 a b r → r < n → (a ≡ b → ⊥) → firstOf n a ≡ firstOf n b → ⊥
+differ : (a b r n : ℕ) → Shares 128 a b r → r < n → (a ≡ b → ⊥) → leadingBits n a ≡ leadingBits n b → ⊥
 differ a b r n s h d e =
     ⊎-elim
     (λ (p : 128 < n). d (sym (all-bits a n p) ∙ e ∙ all-bits b n p))
     (λ (p : n ≤ 128). omega (arith, s .only n p e))
     (lt-or-le 128 n)
 
-whole-bits : (a b r n : ℕ) → Shares 128 a b r → r < n → Way a b → lower a b ≡ lower (firstOf n a) (firstOf n b)
+whole-bits : (a b r n : ℕ) → Shares 128 a b r → r < n → Way a b → lower a b ≡ lower (leadingBits n a) (leadingBits n b)
 whole-bits a b r n s h (below l) =
     low-below a b l
-    ∙ sym (low-below (firstOf n a) (firstOf n b) (omega (arith, differ a b r n s h (λ e. omega arith), shr-mono {a = a} {b = b} (128 - n) (omega arith))))
-whole-bits a b r n s h (equal e) = low-equal a b e ∙ sym (low-equal (firstOf n a) (firstOf n b) (ap (λ (x : ℕ). firstOf n x) e))
+    ∙ sym (low-below (leadingBits n a) (leadingBits n b) (omega (arith, differ a b r n s h (λ e. omega arith), shr-mono {a = a} {b = b} (128 - n) (omega arith))))
+whole-bits a b r n s h (equal e) = low-equal a b e ∙ sym (low-equal (leadingBits n a) (leadingBits n b) (ap (λ (x : ℕ). leadingBits n x) e))
 whole-bits a b r n s h (above l) =
     low-above a b l
-    ∙ sym (low-above (firstOf n a) (firstOf n b) (omega (arith, differ a b r n s h (λ e. omega arith), shr-mono {a = b} {b = a} (128 - n) (omega arith))))
+    ∙ sym (low-above (leadingBits n a) (leadingBits n b) (omega (arith, differ a b r n s h (λ e. omega arith), shr-mono {a = b} {b = a} (128 - n) (omega arith))))
 
 -- the order of two addresses by their halves
 lows′ : (h a b : ℕ) → Way a b → lower a b ≡ lower (wide h a) (wide h b)
@@ -143,14 +143,14 @@ highs′ ah al bh bl p q d (equal e) = absurd (d e)
 highs′ ah al bh bl p q d (above l) = low-above ah bh l ∙ sym (low-above (wide ah al) (wide bh bl) (omega arith))
 
 module _ (ah al bh bl r n : ℕ) (s : Shares 128 (wide ah al) (wide bh bl) r) (h : r < n) where
-  pub by-lows : ah ≡ bh → lower al bl ≡ lower (firstOf n (wide ah al)) (firstOf n (wide bh bl))
+  pub by-lows : ah ≡ bh → lower al bl ≡ lower (leadingBits n (wide ah al)) (leadingBits n (wide bh bl))
   by-lows e = lows′ ah al bl (way al bl) ∙ ap (λ (x : ℕ). lower (wide ah al) (wide x bl)) e ∙ whole-bits (wide ah al) (wide bh bl) r n s h (way _ _)
 
-  pub by-highs : al < 2 ^ 64 → bl < 2 ^ 64 → (ah ≡ bh → ⊥) → lower ah bh ≡ lower (firstOf n (wide ah al)) (firstOf n (wide bh bl))
+  pub by-highs : al < 2 ^ 64 → bl < 2 ^ 64 → (ah ≡ bh → ⊥) → lower ah bh ≡ lower (leadingBits n (wide ah al)) (leadingBits n (wide bh bl))
   by-highs p q d = highs′ ah al bh bl p q d (way ah bh) ∙ whole-bits (wide ah al) (wide bh bl) r n s h (way _ _)
 
 -- of an IPv4 address, the first 32 of the 128 bits: its own first n
-pub first-ipv4 : (a n : ℕ) → n ≤ 32 → firstOf n (wide (a * 2 ^ 32) 0) ≡ a / 2 ^ (32 - n)
+pub first-ipv4 : (a n : ℕ) → n ≤ 32 → leadingBits n (wide (a * 2 ^ 32) 0) ≡ a / 2 ^ (32 - n)
 first-ipv4 a n h =
     let e : 128 - n - 64 ≡ 32 + (32 - n) = omega arith in
     past (a * 2 ^ 32) 0 (128 - n) (omega arith) (omega arith)

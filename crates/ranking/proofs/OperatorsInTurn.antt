@@ -3,19 +3,20 @@ use Prim.Native.Nat.{ℕ, zero, suc, _+_, _*_, _/_, _%_, _^_, _≤_, _<_, min}
 use mathlib.Core.Path.{_≡_, refl, sym, _∙_, ap, ap₂}
 use mathlib.Core.List.{List, [], _∷_, _++_}
 use native.Mathlib.Omega.{arith}
-use native.Mathlib.Nat.{mod-lt, mod-one, min-le-left, min-le-right}
+use native.Mathlib.Nat.{mod-lt, mod-one}
 use lib.Arith.{digits-lt}
 use lib.Pow.{pow-pos, mod-pow-add}
-use lib.ListN.{length, getD}
+use lib.ListN.{length, getD, drop}
 use Rattle.octets.specs.Spell.{spelled}
 use Rattle.octets.specs.Widths.{widths, widthOf}
 use Rattle.operators.specs.declared.Kind.{Kind}
 use Rattle.operators.specs.declared.Kind.the-variants.{Numeric, Bitmask}
 use Rattle.operators.specs.Ops.{clearedIn, Op, op, opsIn, listOctets}
 use Rattle.ranking.specs.declared.Order.{Order}
+use Rattle.ranking.specs.declared.Order.the-variants.{Equal}
 use Rattle.ranking.specs.Ranks.{lower, thenBy, inTurn, rankOctets, cutTo, rankOp}
 use Rattle.ranking.proofs.Orders.{Way, below, equal, above, way, low-below, low-equal, low-above, then-assoc}
-use Rattle.ranking.proofs.Turns.{rest, rest-first, rest-end, rest-turn}
+use Rattle.ranking.proofs.LeftInTurn.{Passed, none-passed, one-ended, next-tells}
 
 -- two digits: the high ones decide, then the low ones
 module _ (c r s : ℕ) (hr : r < c) (hs : s < c) where
@@ -56,6 +57,12 @@ then-next x y o p f (equal e) = ap (λ (q : Order). thenBy (lower x y) q) (f e)
 then-next x y o p f (above h) = rw (low-above x y h)
 
 module _ (k : Kind) where
+  -- the same octet with the same value
+  pub same-operator : (octet value octet2 value2 : ℕ) → octet ≡ octet2 → value ≡ value2 → Equal ≡ rankOp k (op octet value) (op octet2 value2)
+  unfolding rankOp
+  same-operator octet value octet2 value2 e f =
+      sym (rw (e, f, low-equal (clearedIn k octet2) (clearedIn k octet2) refl, low-equal (cutTo octet2 value2) (cutTo octet2 value2) refl))
+
   -- equal octets name equal widths, so the values stand at equal places
   by-first : (a b : Op) (os ps : List Op)
       → rankOctets (listOctets k (a ∷ os)) (listOctets k (b ∷ ps)) ≡ thenBy (rankOp k a b) (rankOctets (listOctets k os) (listOctets k ps))
@@ -90,28 +97,38 @@ op-at values octets (suc n) at (suc i) h =
     let e : at + 1 + i ≡ at + suc i = omega arith in
     op-at values octets n (at + 1) i (omega arith) ∙ ap (λ (j : ℕ). op (getD octets j 0) (getD values j 0)) e
 
--- the loop over two lists
-module _ (k : Kind) (values octets : List ℕ) (start count : ℕ) (values2 octets2 : List ℕ) (start2 count2 : ℕ) where
-  abbrev left : ℕ → Order
-  left i = rest (rankOp k) (opsIn values octets start count) (opsIn values2 octets2 start2 count2) i
+-- the loop over two lists: i operators of each are passed
+pub record OperatorsPassed (k : Kind) (values octets : List ℕ) (start count : ℕ) (values2 octets2 : List ℕ) (start2 count2 i : ℕ) : Type 0 where
+  pub passed : Passed (rankOp k) (opsIn values octets start count) (opsIn values2 octets2 start2 count2) i
 
-  pub ops-first : rankOctets (listOctets k (opsIn values octets start count)) (listOctets k (opsIn values2 octets2 start2 count2)) ≡ left 0
-  ops-first = operators-in-turn k _ _ ∙ rest-first (rankOp k) _ _
+module _ {k : Kind} {values octets : List ℕ} {start count : ℕ} {values2 octets2 : List ℕ} {start2 count2 : ℕ} where
+  pub no-operators : OperatorsPassed k values octets start count values2 octets2 start2 count2 0
+  no-operators = record { passed = none-passed (rankOp k) _ _ }
 
-  n : length (opsIn values octets start count) ≡ count
-  n = length-ops values octets count start
+  module _ {i : ℕ} (p : OperatorsPassed k values octets start count values2 octets2 start2 count2 i) where
+    n : length (opsIn values octets start count) ≡ count
+    n = length-ops values octets count start
 
-  n2 : length (opsIn values2 octets2 start2 count2) ≡ count2
-  n2 = length-ops values2 octets2 count2 start2
+    n2 : length (opsIn values2 octets2 start2 count2) ≡ count2
+    n2 = length-ops values2 octets2 count2 start2
 
-  module _ (both : ℕ) (is : both ≡ min count count2) (i : ℕ) where
-    pub ops-end : i ≤ both → both ≤ i → left i ≡ lower count2 count
-    ops-end h l = rest-end (rankOp k) _ _ i (op 0 0) (op 0 0) (rw (n, n2, ← is) h) (rw (n, n2, ← is) l) ∙ ap₂ lower n2 n
+    in-turn : rankOctets (listOctets k (opsIn values octets start count)) (listOctets k (opsIn values2 octets2 start2 count2)) ≡ inTurn (rankOp k) (opsIn values octets start count) (opsIn values2 octets2 start2 count2)
+    in-turn = operators-in-turn k (opsIn values octets start count) (opsIn values2 octets2 start2 count2)
 
-    pub ops-turn : i < both → (o : Order) → rankOp k (op (getD octets (start + i) 0) (getD values (start + i) 0)) (op (getD octets2 (start2 + i) 0) (getD values2 (start2 + i) 0)) ≡ o
-        → left i ≡ thenBy o (left (i + 1))
-    ops-turn h o e =
-        let x : i < count = omega (arith, min-le-left count count2) in
-        let y : i < count2 = omega (arith, min-le-right count count2) in
-        rest-turn (rankOp k) _ _ i (op 0 0) (op 0 0) (rw (n, n2, ← is) h) o
-        (ap₂ (λ (a b : Op). rankOp k a b) (op-at values octets count start i x) (op-at values2 octets2 count2 start2 i y) ∙ e)
+    pub operators-end : i ≤ min count count2 → min count count2 ≤ i → rankOctets (listOctets k (opsIn values octets start count)) (listOctets k (opsIn values2 octets2 start2 count2)) ≡ lower count2 count
+    operators-end h l = in-turn ∙ one-ended (rankOp k) _ _ i (p .passed) (op 0 0) (rw (n, n2) h) (rw (n, n2) l) ∙ ap₂ lower n2 n
+
+    module _ (h : i < count) (l : i < count2) where
+      next : (o : Order) → rankOp k (op (getD octets (start + i) 0) (getD values (start + i) 0)) (op (getD octets2 (start2 + i) 0) (getD values2 (start2 + i) 0)) ≡ o
+          → inTurn (rankOp k) (opsIn values octets start count) (opsIn values2 octets2 start2 count2) ≡ thenBy o (inTurn (rankOp k) (drop (i + 1) (opsIn values octets start count)) (drop (i + 1) (opsIn values2 octets2 start2 count2)))
+      next o e =
+          next-tells (rankOp k) _ _ i (p .passed) (op 0 0) (rw n h) (rw n2 l) o
+          (ap₂ (λ (a b : Op). rankOp k a b) (op-at values octets count start i h) (op-at values2 octets2 count2 start2 i l) ∙ e)
+
+      pub operators-equal : rankOp k (op (getD octets (start + i) 0) (getD values (start + i) 0)) (op (getD octets2 (start2 + i) 0) (getD values2 (start2 + i) 0)) ≡ Equal
+          → OperatorsPassed k values octets start count values2 octets2 start2 count2 (i + 1)
+      operators-equal e = record { passed = record { same = next Equal e } }
+
+      pub operators-tell : (o : Order) → rankOp k (op (getD octets (start + i) 0) (getD values (start + i) 0)) (op (getD octets2 (start2 + i) 0) (getD values2 (start2 + i) 0)) ≡ o
+          → rankOctets (listOctets k (opsIn values octets start count)) (listOctets k (opsIn values2 octets2 start2 count2)) ≡ thenBy o (inTurn (rankOp k) (drop (i + 1) (opsIn values octets start count)) (drop (i + 1) (opsIn values2 octets2 start2 count2)))
+      operators-tell o e = in-turn ∙ next o e
