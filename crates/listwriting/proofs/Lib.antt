@@ -1,4 +1,4 @@
-pub mod Marks
+pub mod Ends
+pub mod Joins
 pub mod Puts
-pub mod Quicks
 pub mod Sizes
