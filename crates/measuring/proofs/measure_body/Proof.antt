@@ -1,22 +1,23 @@
--- `measuring::measure` meets its contract. The invariant: the whole is what was counted and what is left of the words.
+-- `measuring::measure_body` meets its contract. The invariant: the whole is what was counted and what is left of the words.
 use Prim.Native.Nat.{ℕ, _+_, _-_, _*_, _≤_}
 use mathlib.Core.Path.{_≡_, refl, sym, ap, _∙_}
 use native.Mathlib.Omega.{arith}
 use Rattle.measuring.specs.Bodies.{lent}
-use Rattle.measuring.specs.Grounds.{measuredAt}
-use Rattle.measuring.proofs.Walks.{restFrom, walk-first, walk-end, walk-bad, walk-more, weighs, weighs-not}
+use Rattle.stored.specs.Stored.{piecesFrom}
+use Rattle.measuring.specs.Grounds.{bodyOf, counted}
+use Rattle.measuring.proofs.Walks.{restFrom, walk-first, walk-large, walk-done, walk-bad, walk-more, weighs, weighs-not}
 use borrow.Author.Needs.{needs}
-use Rattle.measuring.proofs.measure.Statement.{statement}
-use Rattle.measuring.proofs.measure.Tie as tie
-use Rattle.measuring.proofs.measure.Reads as reads
-use Rattle.measuring.proofs.measure.Lts as lts
+use Rattle.measuring.proofs.measure_body.Statement.{statement}
+use Rattle.measuring.proofs.measure_body.Tie as tie
+use Rattle.measuring.proofs.measure_body.Reads as reads
+use Rattle.measuring.proofs.measure_body.Lts as lts
 use Rattle.measuring.proofs.weigh.Reads as weigh-reads
-use Rattle.pieces.proofs.piece_at.Reads as piece-at-reads
+use Rattle.stored.proofs.piece_at.Reads as piece-at-reads
 
 abbrev Inv-loop : tie.InvT-loop
 Inv-loop writing words count first values octets body₀ left₀ previous₀ i₀ body left previous i =
     (i ≤ count) × (left ≤ 2047) × (body ≤ 19 * i + 9 * (2047 - left))
-    × (measuredAt writing (lent values octets first) words count ≡ restFrom writing (lent values octets first) words count i left previous body)
+    × (counted (bodyOf writing (lent values octets first) (piecesFrom count words 0)) ≡ restFrom writing (lent values octets first) words count i left previous body)
 
 abbrev μ-loop : tie.MeasureT-loop
 μ-loop writing words count first values octets body₀ left₀ previous₀ i₀ body left previous i = count - i
@@ -82,17 +83,24 @@ loop-again c =
     let a = o .before .before .before .before .args in
     let l = lent (a .values .now) (a .octets .now) (a .first) in
     let f = weighs (a .writing) l (o .loop .left) (o .loop .previous) (g .before .piece-at .ensures) (g .weigh .ensures) (k .w .given .1) in
-    (omega arith, omega arith, omega (arith, f .most, f .few, o .loop .inv .2), o .loop .inv .3 ∙ walk-more (a .writing) l (a .words .now) (a .count) (o .loop .i) (o .loop .left) (o .loop .previous) (o .loop .body) (omega arith) (f .fits) (f .kind) (f .size) (f .count))
+    (omega arith, omega arith, omega (arith, f .most, f .few, o .loop .inv .2), o .loop .inv .3 ∙ walk-more (a .writing) l (a .words .now) (a .count) (o .loop .i) (o .loop .left) (o .loop .previous) (o .loop .body) (omega arith) f)
 
 returns-2 : tie.Need-returns-2 Inv-loop μ-loop
 returns-2 c =
-    let o = c .before in
+    let o = c .before .before in
     let a = o .before .before .before .before .args in
     let l = lent (a .values .now) (a .octets .now) (a .first) in
-    walk-end (a .writing) l (a .words .now) (a .count) (o .loop .i) (o .loop .left) (o .loop .previous) (o .loop .body) (omega arith) ∙ sym (o .loop .inv .3)
+    sym (o .loop .inv .3 ∙ walk-large (a .writing) l (a .words .now) (a .count) (o .loop .i) (o .loop .left) (o .loop .previous) (o .loop .body) (omega arith) (c .if1 .taken))
 
-pub measure-spec : {M : Type 1} → statement M
-measure-spec =
+returns-3 : tie.Need-returns-3 Inv-loop μ-loop
+returns-3 c =
+    let o = c .before .before in
+    let a = o .before .before .before .before .args in
+    let l = lent (a .values .now) (a .octets .now) (a .first) in
+    sym (o .loop .inv .3 ∙ walk-done (a .writing) l (a .words .now) (a .count) (o .loop .i) (o .loop .left) (o .loop .previous) (o .loop .body) (omega arith) (c .if1 .left))
+
+pub measure-body-spec : {M : Type 1} → statement M
+measure-body-spec =
     tie.close
     (tie.spec
     Inv-loop
@@ -109,4 +117,5 @@ measure-spec =
     add-i
     loop-less
     loop-again
-    returns-2)
+    returns-2
+    returns-3)
