@@ -1,4 +1,4 @@
--- `bodywriting::put_other` meets its contract, by the writing.
+-- `writing::put_other` meets its contract, by the writing.
 use mathlib.Core.Path.{_≡_, sym, ap, _∙_}
 use native.Mathlib.Omega.{arith}
 use lib.ListN.{length}
@@ -8,10 +8,10 @@ use Rattle.prefixwriting.proofs.Puts.{length-plain, length-standard, valid-rang
 use Rattle.measuring.specs.Bodies.{prefixOctets}
 use Rattle.measuring.specs.Grounds.{prefixTaken}
 use borrow.Author.Needs.{needs}
-use Rattle.bodywriting.proofs.put_other.Statement.{statement}
-use Rattle.bodywriting.proofs.put_other.Tie as tie
-use Rattle.bodywriting.proofs.put_other.Reads as reads
-use Rattle.bodywriting.proofs.put_other.Lts as lts
+use Rattle.writing.proofs.put_other.Statement.{statement}
+use Rattle.writing.proofs.put_other.Tie as tie
+use Rattle.writing.proofs.put_other.Reads as reads
+use Rattle.writing.proofs.put_other.Lts as lts
 use Rattle.prefixwriting.proofs.put_plain.Reads as put-plain-reads
 use Rattle.prefixwriting.proofs.put_standard.Reads as put-standard-reads
 

@@ -1,18 +1,18 @@
--- `bodywriting::put_piece` meets its contract: the type, then what follows it.
+-- `writing::put_piece` meets its contract: the type, then what follows it.
 use Prim.Native.Nat.{ℕ, _+_}
 use mathlib.Core.Path.{_≡_, refl, sym, ap, _∙_}
 use native.Mathlib.Omega.{arith}
 use lib.ListN.{length, set, length-set}
 use lib.Seq.{sets, length-sets}
 use Rattle.measuring.specs.Bodies.{lent, prefixOctets, pieceOctets}
-use Rattle.bodywriting.proofs.Stores.{prefix-taken, prefix-long, prefix-put, list-inside, list-long, list-put, never-taken, kept}
+use Rattle.writing.proofs.Stores.{prefix-taken, prefix-long, prefix-put, list-inside, list-long, list-put, never-taken, kept}
 use borrow.Author.Needs.{needs}
-use Rattle.bodywriting.proofs.put_piece.Statement.{statement}
-use Rattle.bodywriting.proofs.put_piece.Tie as tie
-use Rattle.bodywriting.proofs.put_piece.Reads as reads
-use Rattle.bodywriting.proofs.put_piece.Lts as lts
-use Rattle.bodywriting.proofs.put_operators.Reads as put-operators-reads
-use Rattle.bodywriting.proofs.put_prefix.Reads as put-prefix-reads
+use Rattle.writing.proofs.put_piece.Statement.{statement}
+use Rattle.writing.proofs.put_piece.Tie as tie
+use Rattle.writing.proofs.put_piece.Reads as reads
+use Rattle.writing.proofs.put_piece.Lts as lts
+use Rattle.writing.proofs.put_operators.Reads as put-operators-reads
+use Rattle.writing.proofs.put_prefix.Reads as put-prefix-reads
 use Rattle.measuring.proofs.prefix_size.Reads as prefix-size-reads
 
 enum-known-piece : tie.Need-enum-known-piece

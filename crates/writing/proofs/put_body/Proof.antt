@@ -1,16 +1,16 @@
--- `bodywriting::put_body` meets its contract. `Turns.antt` has the invariant, `Stood`, and what a turn does to it.
+-- `writing::put_body` meets its contract. `Turns.antt` has the invariant, `Stood`, and what a turn does to it.
 use Prim.Native.Nat.{ℕ, _+_, _-_, _*_}
 use mathlib.Core.Path.{_≡_, refl, sym, ap, _∙_}
 use native.Mathlib.Omega.{arith}
 use Rattle.measuring.specs.Bodies.{lent}
-use Rattle.bodywriting.proofs.Turns.{Stood, stood-first, stood-end, stood-more, next-taken, next-room}
+use Rattle.writing.proofs.Turns.{Stood, stood-first, stood-end, stood-more, next-taken, next-room}
 use borrow.Author.Needs.{needs}
-use Rattle.bodywriting.proofs.put_body.Statement.{statement}
-use Rattle.bodywriting.proofs.put_body.Tie as tie
-use Rattle.bodywriting.proofs.put_body.Reads as reads
-use Rattle.bodywriting.proofs.put_body.Lts as lts
-use Rattle.bodywriting.proofs.put_piece.Reads as put-piece-reads
-use Rattle.pieces.proofs.piece_at.Reads as piece-at-reads
+use Rattle.writing.proofs.put_body.Statement.{statement}
+use Rattle.writing.proofs.put_body.Tie as tie
+use Rattle.writing.proofs.put_body.Reads as reads
+use Rattle.writing.proofs.put_body.Lts as lts
+use Rattle.writing.proofs.put_piece.Reads as put-piece-reads
+use Rattle.stored.proofs.piece_at.Reads as piece-at-reads
 
 abbrev Inv-loop : tie.InvT-loop
 Inv-loop writing words count first values octets out₀ at p₀ i₀ out p i = Stood writing (lent values octets first) words count at out₀ out p i
@@ -21,7 +21,7 @@ abbrev μ-loop : tie.MeasureT-loop
 loop-holds : tie.Need-loop-holds Inv-loop μ-loop
 loop-holds c =
     let s = c .before .before .before .before in
-    stood-first _ _ _ _ _ _ (s .pre .1 .0 .0) (s .pre .1 .0 .1)
+    stood-first _ _ _ _ _ _ (s .pre .1 .0)
 
 mul-piece-at : tie.Need-mul-piece-at Inv-loop μ-loop
 mul-piece-at c = omega (arith, c .before .before .before .before .before .before .pre .0)

@@ -1,4 +1,4 @@
--- `bodywriting::put_operators` meets its contract: a list that is not empty lies within the lent lists.
+-- `writing::put_operators` meets its contract: a list that is not empty lies within the lent lists.
 use Prim.Native.Nat.{ℕ, _+_}
 use mathlib.Core.Path.{_≡_, refl, sym, ap, _∙_}
 use native.Mathlib.Omega.{arith}
@@ -10,10 +10,10 @@ use Rattle.listwriting.specs.Lists.{sizeIn}
 use Rattle.measuring.specs.Bodies.{lent, opsOf}
 use Rattle.measuring.proofs.Insides.{inside-both}
 use borrow.Author.Needs.{needs}
-use Rattle.bodywriting.proofs.put_operators.Statement.{statement}
-use Rattle.bodywriting.proofs.put_operators.Tie as tie
-use Rattle.bodywriting.proofs.put_operators.Reads as reads
-use Rattle.bodywriting.proofs.put_operators.Lts as lts
+use Rattle.writing.proofs.put_operators.Statement.{statement}
+use Rattle.writing.proofs.put_operators.Tie as tie
+use Rattle.writing.proofs.put_operators.Reads as reads
+use Rattle.writing.proofs.put_operators.Lts as lts
 use Rattle.operators.proofs.kind_of.Reads as kind-of-reads
 use Rattle.listwriting.proofs.put_list.Reads as put-list-reads
 

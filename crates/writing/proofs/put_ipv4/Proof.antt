@@ -1,4 +1,4 @@
--- `bodywriting::put_ipv4` meets its contract: the length, then the octets after it.
+-- `writing::put_ipv4` meets its contract: the length, then the octets after it.
 use Prim.Native.Nat.{ℕ, _+_, _-_, _*_, _/_, _^_}
 use mathlib.Core.Path.{_≡_, sym, ap, _∙_}
 use native.Mathlib.Omega.{arith}
@@ -6,13 +6,13 @@ use lib.ListN.{length, set, length-set}
 use lib.Seq.{sets, length-sets}
 use Rattle.octets.specs.Spell.{spelled}
 use Rattle.prefixwriting.specs.Writings.{frontOctets}
-use Rattle.bodywriting.proofs.Stores.{first-then}
+use Rattle.writing.proofs.Stores.{first-then}
 use borrow.Author.Needs.{needs}
-use Rattle.bodywriting.proofs.put_ipv4.Statement.{statement}
-use Rattle.bodywriting.proofs.put_ipv4.Tie as tie
-use Rattle.bodywriting.proofs.put_ipv4.Reads as reads
-use Rattle.bodywriting.proofs.put_ipv4.Lts as lts
-use Rattle.bodywriting.proofs.put_high.Reads as put-high-reads
+use Rattle.writing.proofs.put_ipv4.Statement.{statement}
+use Rattle.writing.proofs.put_ipv4.Tie as tie
+use Rattle.writing.proofs.put_ipv4.Reads as reads
+use Rattle.writing.proofs.put_ipv4.Lts as lts
+use Rattle.writing.proofs.put_high.Reads as put-high-reads
 use Rattle.prefixes.proofs.octets_of.Reads as octets-of-reads
 
 slice-write-out : tie.Need-slice-write-out

@@ -1,13 +1,13 @@
--- `bodywriting::put_high` meets its contract, by how many octets there are.
+-- `writing::put_high` meets its contract, by how many octets there are.
 use Prim.Native.Nat.{ℕ, _≤_}
 use mathlib.Core.Path.{_≡_, sym, _∙_}
 use native.Mathlib.Omega.{arith}
-use Rattle.bodywriting.proofs.Stores.{four, high-none, high-one, high-three, high-four}
+use Rattle.writing.proofs.Stores.{four, high-none, high-one, high-three, high-four}
 use borrow.Author.Needs.{needs}
-use Rattle.bodywriting.proofs.put_high.Statement.{statement}
-use Rattle.bodywriting.proofs.put_high.Tie as tie
-use Rattle.bodywriting.proofs.put_high.Reads as reads
-use Rattle.bodywriting.proofs.put_high.Lts as lts
+use Rattle.writing.proofs.put_high.Statement.{statement}
+use Rattle.writing.proofs.put_high.Tie as tie
+use Rattle.writing.proofs.put_high.Reads as reads
+use Rattle.writing.proofs.put_high.Lts as lts
 use Rattle.octets.proofs.write_value.Reads as write-value-reads
 
 -- the number that is left

@@ -1,4 +1,4 @@
--- `bodywriting::put_prefix` meets its contract: an IPv4 prefix is written alike by both writings.
+-- `writing::put_prefix` meets its contract: an IPv4 prefix is written alike by both writings.
 use Prim.Native.Nat.{ℕ, _+_}
 use mathlib.Core.Path.{_≡_, sym, ap, _∙_}
 use native.Mathlib.Omega.{arith}
@@ -6,14 +6,14 @@ use lib.ListN.{length}
 use lib.Seq.{sets}
 use Rattle.measuring.specs.Bodies.{prefixOctets}
 use Rattle.measuring.specs.Grounds.{prefixTaken}
-use Rattle.bodywriting.proofs.Stores.{taken-ipv4, octets-ipv4, length-ipv4}
+use Rattle.writing.proofs.Stores.{taken-ipv4, octets-ipv4, length-ipv4}
 use borrow.Author.Needs.{needs}
-use Rattle.bodywriting.proofs.put_prefix.Statement.{statement}
-use Rattle.bodywriting.proofs.put_prefix.Tie as tie
-use Rattle.bodywriting.proofs.put_prefix.Reads as reads
-use Rattle.bodywriting.proofs.put_prefix.Lts as lts
-use Rattle.bodywriting.proofs.put_ipv4.Reads as put-ipv4-reads
-use Rattle.bodywriting.proofs.put_other.Reads as put-other-reads
+use Rattle.writing.proofs.put_prefix.Statement.{statement}
+use Rattle.writing.proofs.put_prefix.Tie as tie
+use Rattle.writing.proofs.put_prefix.Reads as reads
+use Rattle.writing.proofs.put_prefix.Lts as lts
+use Rattle.writing.proofs.put_ipv4.Reads as put-ipv4-reads
+use Rattle.writing.proofs.put_other.Reads as put-other-reads
 
 enum-known-prefix : tie.Need-enum-known-prefix
 enum-known-prefix c = search needs
@@ -28,23 +28,8 @@ put-ipv4-requires c κs =
     let n = ap (λ q. length (prefixOctets (a .writing) q)) (g .1) ∙ length-ipv4 (a .writing) (g .0 .0) (g .0 .1 .0) in
     (t, omega (arith, n, s .pre .1))
 
-enum-told : tie.Need-enum-told
-enum-told c = search needs
-
 put-other-requires : tie.Need-put-other-requires
 put-other-requires c κs = search needs
-
-enum-told-2 : tie.Need-enum-told-2
-enum-told-2 c = search needs
-
-put-other-requires-2 : tie.Need-put-other-requires-2
-put-other-requires-2 c κs = search needs
-
-enum-told-3 : tie.Need-enum-told-3
-enum-told-3 c = search needs
-
-put-other-requires-3 : tie.Need-put-other-requires-3
-put-other-requires-3 c κs = search needs
 
 same-length : tie.Need-same-length
 same-length c = search needs
@@ -63,35 +48,14 @@ same-length-2 c = search needs
 returns-2 : tie.Need-returns-2
 returns-2 c = search needs
 
-same-length-3 : tie.Need-same-length-3
-same-length-3 c = search needs
-
-returns-3 : tie.Need-returns-3
-returns-3 c = search needs
-
-same-length-4 : tie.Need-same-length-4
-same-length-4 c = search needs
-
-returns-4 : tie.Need-returns-4
-returns-4 c = search needs
-
 pub put-prefix-spec : {M : Type 1} → statement M
 put-prefix-spec =
     tie.close
     (tie.spec
     enum-known-prefix
     put-ipv4-requires
-    enum-told
     put-other-requires
-    enum-told-2
-    put-other-requires-2
-    enum-told-3
-    put-other-requires-3
     same-length
     returns
     same-length-2
-    returns-2
-    same-length-3
-    returns-3
-    same-length-4
-    returns-4)
+    returns-2)

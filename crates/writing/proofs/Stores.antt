@@ -23,8 +23,8 @@ use Rattle.prefixes.specs.Prefixes.{octetsOf}
 use Rattle.prefixes.specs.Forms.{clean}
 use Rattle.prefixwriting.specs.Writings.{frontOctets}
 use Rattle.listwriting.specs.Lists.{sizeIn}
-use Rattle.pieces.specs.declared.Piece.{Piece}
-use Rattle.pieces.specs.declared.Piece.the-variants.{Prefix, Operators, NoRecord}
+use Rattle.stored.specs.declared.Piece.{Piece}
+use Rattle.stored.specs.declared.Piece.the-variants.{Prefix, Operators, NoRecord}
 use Rattle.measuring.specs.Bodies.{Lent, opsOf, prefixOctets, pieceOctets}
 use Rattle.measuring.specs.Grounds.{insideOf, prefixTaken, listTaken, pieceTaken}
 use Rattle.measuring.proofs.Weights.{length-operators}
