@@ -12,7 +12,7 @@ use Rattle.ground.proofs.Answers.{never}
 use Rattle.ground.proofs.Cases.{by-test, both}
 use Rattle.choices.specs.declared.Reading.{Reading}
 use Rattle.choices.specs.declared.Reading.the-variants.{Plain, Ipv4, Ipv6}
-use Rattle.choices.specs.Choices.{lastType}
+use Rattle.choices.specs.Choices.{lastType, familyOf, standardOf}
 use Rattle.operators.specs.Ops.{kindOf, Op, opsIn, listOctets}
 use Rattle.rules.specs.declared.NetworkPrefix.{NetworkPrefix}
 use Rattle.stored.specs.declared.Piece.{Piece}
@@ -30,6 +30,22 @@ abbrev pub Standard : Reading → Type 0
 Standard Plain = ⊥
 Standard Ipv4 = Unit {0}
 Standard Ipv6 = Unit {0}
+
+-- and the families that name them
+pub standard-own : (w : Reading) → Standard w → standardOf (familyOf w) ≡ accepts w
+unfolding standardOf
+standard-own Plain u = absurd u
+standard-own Ipv4 u = refl
+standard-own Ipv6 u = refl
+
+pub standard-shows : (family : ℕ) (w : Reading) → standardOf family ≡ accepts w → Standard w × (familyOf w ≡ family)
+unfolding standardOf
+standard-shows family w e =
+    by-test (eqb family 4)
+    (λ t. let s : Ipv4 ≡ w = cc (rw t at e) in rw (← s) (tt, sym (eqb-true family 4 t)))
+    (λ t. by-test (eqb family 6)
+    (λ u. let s : Ipv6 ≡ w = cc (rw (t, u) at e) in rw (← s) (tt, sym (eqb-true family 6 u)))
+    (λ u. never (rw (t, u) at e)))
 
 -- ---- the octets
 

@@ -1,4 +1,4 @@
-pub mod Lengths
+pub mod Laws
 pub mod Once
 pub mod Stores
 pub mod Turns

@@ -216,7 +216,16 @@ pub fn put(
     octets::encode_length(body, out);
     let count = stored::count_at(words, 0);
     let first = stored::first_at(words, 0);
-    put_body(writing, words, count, first, values, octets, out, head(body));
+    put_body(
+        writing,
+        words,
+        count,
+        first,
+        values,
+        octets,
+        out,
+        head(body),
+    );
 }
 
 // The rule at the front of the words, by a writing.

@@ -42,11 +42,12 @@ put-body-requires c κs =
     let s = e .before .before .before .before .before .before in
     let a = s .args in
     let t = sym (s .pre .0) in
-    let l : length (e .encode-length .last .1 .0) ≡ length (a .out .now) = kept (a .out .now) 0 (lengthInto (a .body) (length (a .out .now))) (e .encode-length .ensures .1) in
-    (
+    let l : length (e .encode-length .last .1 .0) ≡ length (a .out .now) = kept (a .out .now) 0 (lengthInto (a .body) (length (a .out .now))) (e .encode-length .ensures .1) in (
       put-words (a .writing) (a .words .now) (a .values .now) (a .octets .now) (a .body) t (k .count-at .ensures) (f .first-at .ensures) (c .head .ensures),
-      (put-taken (a .writing) (a .words .now) (a .values .now) (a .octets .now) (a .body) t (k .count-at .ensures) (f .first-at .ensures) (c .head .ensures),
-      put-room (a .writing) (a .words .now) (a .values .now) (a .octets .now) (a .body) t (k .count-at .ensures) (f .first-at .ensures) (c .head .ensures) (e .encode-length .last .1 .0) (omega (arith, l, s .pre .1))),
+      (
+        put-taken (a .writing) (a .words .now) (a .values .now) (a .octets .now) (a .body) t (k .count-at .ensures) (f .first-at .ensures) (c .head .ensures),
+        put-room (a .writing) (a .words .now) (a .values .now) (a .octets .now) (a .body) t (k .count-at .ensures) (f .first-at .ensures) (c .head .ensures) (e .encode-length .last .1 .0) (omega (arith, l, s .pre .1)),
+      ),
     )
 
 same-length : tie.Need-same-length

@@ -33,7 +33,8 @@ returns c =
     let k = c .before .before .before in
     let g = k .before .before in
     let a = g .before .before .before .before .before .args in
-    no-room (bodyFrom (a .writing) (a .words .now) (a .values .now) (a .octets .now)) (a .out .now) (k .m .given .0 .0) (sym (ap toldMeasured (k .m .given .1)) ∙ g .measure .ensures) _ (c .before .whole .ensures) (c .if1 .taken)
+    let h = no-room (bodyFrom (a .writing) (a .words .now) (a .values .now) (a .octets .now)) (a .out .now) (k .m .given .0 .0) (sym (ap toldMeasured (k .m .given .1)) ∙ g .measure .ensures) _ (c .before .whole .ensures) (c .if1 .taken) in
+    (h .0, h .1)
 
 put-requires : tie.Need-put-requires
 put-requires c κs =
@@ -57,7 +58,8 @@ returns-2 c =
     let k = w .before .before in
     let g = k .before .before in
     let a = g .before .before .before .before .before .args in
-    in-room (bodyFrom (a .writing) (a .words .now) (a .values .now) (a .octets .now)) (a .out .now) (k .m .given .0 .0) (sym (ap toldMeasured (k .m .given .1)) ∙ g .measure .ensures) _ (w .whole .ensures) (i .if1 .left) (p .put .ensures)
+    let h = in-room (bodyFrom (a .writing) (a .words .now) (a .values .now) (a .octets .now)) (a .out .now) (k .m .given .0 .0) (sym (ap toldMeasured (k .m .given .1)) ∙ g .measure .ensures) _ (w .whole .ensures) (i .if1 .left) (p .put .ensures) in
+    (h .0, h .1)
 
 returns-3 : tie.Need-returns-3
 unfolding writtenFrom
