@@ -1,4 +1,5 @@
-pub mod Marks
+pub mod Ends
+pub mod Joins
+pub mod Laws
 pub mod Puts
-pub mod Quicks
 pub mod Sizes

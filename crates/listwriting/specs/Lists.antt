@@ -1,12 +1,15 @@
 -- One list of operators in a writing: how many octets write it, and whether the standard writing takes it. The octets themselves are
--- `listOctets` of `choices`. Document 01, "Writing"; RFC 8955, 4.2.1.1 and 4.2.1.2.
+-- `listOctets` of `operators`. Document 01, "Writing"; RFC 8955, 4.2.1.1 and 4.2.1.2.
 use Prim.Native.Nat.{ℕ, zero, suc, _+_, _*_, _/_, _%_, _^_}
 use mathlib.Core.List.{List, [], _∷_}
 use mathlib.Core.Bool.{Bool, false, not, _&&_}
 use lib.ListN.{getD}
 use lib.Dec.{eqb, leb, ltb}
 use Rattle.octets.specs.Widths.{widthOf}
-use Rattle.operators.specs.Ops.{Op}
+use Rattle.ground.specs.Picks.{pick}
+use Rattle.operators.specs.Ops.{Op, opsIn}
+use Rattle.listwriting.specs.declared.ListSize.{ListSize}
+use Rattle.listwriting.specs.declared.ListSize.the-variants.{Octets, NotTaken}
 
 -- the octets of n operators from a place on: one each, and its value's width (`length-list` in proofs/ has the law)
 unfoldable pub sizeIn : List ℕ → ℕ → ℕ → ℕ
@@ -27,3 +30,7 @@ ends (o ∷ p ∷ os) = fitsIn (o .octet) (o .value) && (not (leb 128 (o .octet)
 unfoldable pub takes : List Op → Bool
 takes [] = false
 takes (o ∷ os) = not (eqb (o .octet % 128 / 64) 1) && ends (o ∷ os)
+
+-- both in one: the octets of the operators at so many places, where the standard writing takes them
+abbrev pub standardSize : List ℕ → List ℕ → ℕ → ℕ → ListSize
+standardSize values octets from count = pick (takes (opsIn values octets from count)) (Octets (sizeIn octets from count)) NotTaken

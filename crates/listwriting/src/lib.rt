@@ -5,17 +5,24 @@
 // room before it writes the first octet, since a refusal changes nothing.
 ghost use mathlib.Core.Path.{_≡_};
 ghost use mathlib.Core.Bool.{true};
-ghost use Prim.Native.Nat.{_+_, _-_, _<_, _≤_};
+ghost use Prim.Native.Nat.{_+_, _-_, _*_, _<_, _≤_};
 ghost use lib.ListN.{length, getD};
 ghost use lib.Seq.{sets};
 ghost use Rattle.octets.specs.Widths.{widths, codeIn};
 ghost use Rattle.operators.specs.Ops.{opsIn, listOctets};
-ghost use Rattle.listwriting.specs.Lists.{sizeIn, fitsIn, ends, takes};
-ghost use Rattle.listwriting.specs.Runs.{Put, Alike, Within};
+ghost use Rattle.listwriting.specs.Lists.{sizeIn, standardSize};
+ghost use Rattle.listwriting.specs.Runs.{Put, Alike, Joined, Adds, nothing};
 use operators::Kind;
 
-// The largest value of each width, by the width's code.
-const MOST: [u64; 4] = [255, 65535, 4294967295, 18446744073709551615];
+// By the width's code: the bits that no value of the width has, and the octets that an operator of the width takes.
+const BEYOND: [u64; 4] = [
+    18446744073709551360,
+    18446744073709486080,
+    18446744069414584320,
+    0,
+];
+
+const TAKES: [usize; 4] = [2, 3, 5, 9];
 
 // How many octets write the operators at so many places. No entry point.
 pub fn size(octets: &[u8], from: usize, count: usize) -> usize
@@ -32,95 +39,143 @@ pub fn size(octets: &[u8], from: usize, count: usize) -> usize
     n
 }
 
-// Whether a value is no larger than its width holds.
-fn fits(octet: u8, value: u64) -> bool
-    ensures { λ r. ⌜ r ≡ fitsIn octet value ⌝ }
-{
-    let code = (octet / 16 % 4) as usize;
-    value <= MOST[code]
+// What is joined over operators: the bits of their values past their widths, all bits of their octets, and how many octets write them. It is
+// tested once, after the last: a loop with no way out and no test costs less than one that stops early.
+pub struct Sum {
+    pub over: u64,
+    pub marks: u8,
+    pub size: usize,
 }
 
-// Whether the operators from one place up to another have one width and no end mark. With no way out of the loop, it goes many at a time.
-fn one_width(octets: &[u8], from: usize, to: usize, code: u8) -> bool
-    requires { ⌜ to ≤ length (now octets) ⌝ }
-    ensures { λ r. ⌜ (r ≡ true → Alike (now (octets .entry)) code from to) ⌝ }
+// Operators one by one. The tables are copied once, not on every turn.
+fn add_each(values: &[u64], octets: &[u8], from: usize, to: usize, sum: Sum) -> Sum
+    requires lists { ⌜ (from ≤ to) × (to ≤ length (now values)) × (to ≤ length (now octets)) ⌝ }
+    requires few { ⌜ sum .size + 9 * (to - from) ≤ 18423 ⌝ }
+    ensures { λ r. ⌜ Adds (now (values .entry)) (now (octets .entry)) from to sum r ⌝ }
 {
-    let mut same = true;
+    let past = BEYOND;
+    let takes = TAKES;
+    let mut over = sum.over;
+    let mut marks = sum.marks;
+    let mut n = sum.size;
     let mut q = from;
     while q < to {
-        same = same & (octets[q] / 16 % 4 == code) & (octets[q] < 128);
+        let octet = octets[q];
+        let code = (octet / 16 % 4) as usize;
+        over = over | (values[q] & past[code]);
+        marks = marks | octet;
+        n += takes[code];
         q += 1;
+    }
+    Sum {
+        over: over,
+        marks: marks,
+        size: n,
+    }
+}
+
+// Whether 16 operators have one width and no end mark. With a constant number of turns and no way out, it is one step.
+fn alike(octets: &[u8], from: usize, code: u8) -> bool
+    requires { ⌜ from + 16 ≤ length (now octets) ⌝ }
+    ensures { λ r. ⌜ (r ≡ true → Alike (now (octets .entry)) code from (from + 16)) ⌝ }
+{
+    let mut same = true;
+    let mut k: usize = 0;
+    while k < 16 {
+        same = same & (octets[from + k] / 16 % 4 == code) & (octets[from + k] < 128);
+        k += 1;
     }
     same
 }
 
-// All bits that are set in the values from one place up to another. With no way out of the loop, it goes many at a time.
-fn joined(values: &[u64], from: usize, to: usize) -> u64
-    requires { ⌜ to ≤ length (now values) ⌝ }
-    ensures { λ r. ⌜ Within (now (values .entry)) r from to ⌝ }
+// All bits of 16 values.
+fn joined(values: &[u64], from: usize) -> u64
+    requires { ⌜ from + 16 ≤ length (now values) ⌝ }
+    ensures { λ r. ⌜ Joined (now (values .entry)) from (from + 16) r ⌝ }
 {
     let mut sum: u64 = 0;
-    let mut q = from;
-    while q < to {
-        sum = sum | values[q];
-        q += 1;
+    let mut k: usize = 0;
+    while k < 16 {
+        sum = sum | values[from + k];
+        k += 1;
     }
     sum
 }
 
-// The quick test, for lists of one width: where it says yes, `ended` does; where it says no, nothing is known.
-fn plainly_ended(values: &[u64], octets: &[u8], from: usize, to: usize) -> bool
-    requires { ⌜ (from < to) × (to ≤ length (now values)) × (to ≤ length (now octets)) ⌝ }
-    ensures { λ r. ⌜ (r ≡ true → ends (opsIn (now (values .entry)) (now (octets .entry)) from (to - from)) ≡ true) ⌝ }
+// Operators from one place up to another: 16 that are alike at once, others one by one.
+fn add_block(values: &[u64], octets: &[u8], from: usize, to: usize, sum: Sum) -> Sum
+    requires lists { ⌜ (from < to) × (to ≤ length (now values)) × (to ≤ length (now octets)) ⌝ }
+    requires few { ⌜ sum .size + 9 * (to - from) ≤ 18423 ⌝ }
+    ensures { λ r. ⌜ Adds (now (values .entry)) (now (octets .entry)) from to sum r ⌝ }
 {
-    let last = octets[to - 1];
-    if last < 128 {
-        return false;
+    if to - from == 16 {
+        let code = octets[from] / 16 % 4;
+        if alike(octets, from, code) {
+            return Sum {
+                over: sum.over | (joined(values, from) & BEYOND[code as usize]),
+                marks: sum.marks,
+                size: sum.size + 16 * TAKES[code as usize],
+            };
+        }
     }
-    let code = last / 16 % 4;
-    if !one_width(octets, from, to - 1, code) {
-        return false;
-    }
-    joined(values, from, to) <= MOST[code as usize]
+    add_each(values, octets, from, to, sum)
 }
 
-// Whether the values and the end marks of the operators from one place up to another are right.
-fn ended(values: &[u64], octets: &[u8], from: usize, to: usize) -> bool
-    requires { ⌜ (from < to) × (to ≤ length (now values)) × (to ≤ length (now octets)) ⌝ }
-    ensures { λ r. ⌜ r ≡ ends (opsIn (now (values .entry)) (now (octets .entry)) from (to - from)) ⌝ }
+// Where a block ends.
+fn block_end(from: usize, to: usize) -> usize
+    requires { ⌜ from < to ⌝ }
+    ensures { λ r. ⌜ (from < r) × (r ≤ to) ⌝ }
 {
+    if to - from < 16 {
+        return to;
+    }
+    from + 16
+}
+
+fn add_all(values: &[u64], octets: &[u8], from: usize, to: usize) -> Sum
+    requires { ⌜ (from ≤ to) × (to ≤ length (now values)) × (to ≤ length (now octets)) × (to - from ≤ 2046) ⌝ }
+    ensures { λ r. ⌜ Adds (now (values .entry)) (now (octets .entry)) from to nothing r ⌝ }
+{
+    let mut sum = Sum {
+        over: 0,
+        marks: 0,
+        size: 0,
+    };
     let mut q = from;
-    loop {
-        let octet = octets[q];
-        if !fits(octet, values[q]) {
-            return false;
-        }
-        q += 1;
-        if to <= q {
-            return 128 <= octet;
-        }
-        if 128 <= octet {
-            return false;
-        }
+    while q < to {
+        let next = block_end(q, to);
+        sum = add_block(values, octets, q, next, sum);
+        q = next;
     }
+    sum
 }
 
-// Whether the standard writing takes the operators at so many places. No entry point.
-pub fn taken(values: &[u64], octets: &[u8], from: usize, count: usize) -> bool
-    requires { ⌜ (from + count ≤ length (now values)) × (from + count ≤ length (now octets)) ⌝ }
-    ensures { λ r. ⌜ r ≡ takes (opsIn (now (values .entry)) (now (octets .entry)) from count) ⌝ }
+// How many octets write a list, where the standard writing takes it.
+pub enum ListSize {
+    Octets(usize),
+    NotTaken,
+}
+
+// The operators at so many places, in the standard writing. No entry point.
+pub fn standard_size(values: &[u64], octets: &[u8], from: usize, count: usize) -> ListSize
+    requires { ⌜ (from + count ≤ length (now values)) × (from + count ≤ length (now octets)) × (count ≤ 2047) ⌝ }
+    ensures { λ r. ⌜ r ≡ standardSize (now (values .entry)) (now (octets .entry)) from count ⌝ }
 {
     if count == 0 {
-        return false;
+        return ListSize::NotTaken;
     }
     if octets[from] % 128 / 64 == 1 {
-        return false;
+        return ListSize::NotTaken;
     }
-    let to = from + count;
-    if plainly_ended(values, octets, from, to) {
-        return true;
+    let last = from + count - 1;
+    let sum = add_all(values, octets, from, last);
+    let octet = octets[last];
+    let code = (octet / 16 % 4) as usize;
+    let over = sum.over | (values[last] & BEYOND[code]);
+    if (over == 0) & (sum.marks < 128) & (128 <= octet) {
+        return ListSize::Octets(sum.size + TAKES[code]);
     }
-    ended(values, octets, from, to)
+    ListSize::NotTaken
 }
 
 // How far a list is written: the place of the next operator and that of the next octet.

@@ -1,30 +1,24 @@
 -- The turns of the walk that measures: a piece is tested and counted, and what is left of the words is the rest of the body.
 use Prim.Native.Nat.{ℕ, suc, _+_, _-_, _*_, _≤_, _<_}
 use mathlib.Core.Path.{_≡_, refl, sym, ap, ap₂, _∙_}
-use mathlib.Core.Bool.{Bool, true, false, not, _&&_, false≢true}
+use mathlib.Core.Bool.{Bool, true, false, _&&_}
 use mathlib.Core.List.{List, [], _∷_}
 use native.Mathlib.Omega.{arith}
-use borrow.Author.Tests.{lt-leb, le-leb, leb-true, leb-false}
-use lib.Dec.{eqb, leb}
+use borrow.Author.Tests.{lt-leb, le-leb, lt-ltb, le-ltb, leb-true, leb-false}
+use lib.Dec.{leb, ltb}
 use lib.ListN.{length, length-append}
+use Rattle.ground.specs.Answers.{Answer, accepts, refuses}
 use Rattle.ground.specs.Picks.{pick}
 use Rattle.ground.proofs.Cases.{by-test, both}
 use Rattle.choices.specs.declared.Reading.{Reading}
-use Rattle.rules.specs.declared.FlowSpecComponent.{FlowSpecComponent}
-use Rattle.rules.specs.declared.FlowSpecComponent.the-variants.{Nothing, DestinationPrefix, SourcePrefix, IpProtocol, Port, DestinationPort, SourcePort, IcmpType, IcmpCode, TcpFlags, PacketLength, Dscp, Fragment, FlowLabel}
-use Rattle.rules.specs.Components.{typeOf}
-use Rattle.stored.specs.declared.Part.{Part}
-use Rattle.stored.specs.declared.Part.the-variants.{Is, NoRecord as NoPart}
-use Rattle.stored.specs.Stored.{componentOf, quadAt, isComponent, partOf, partAt, inRule, componentsFrom, partsFrom}
-use Rattle.pieces.specs.declared.Piece.{Piece}
-use Rattle.pieces.specs.declared.Piece.the-variants.{NoRecord}
-use Rattle.pieces.specs.Pieces.{pieceOf, pieceIn}
+use Rattle.stored.specs.declared.Piece.{Piece}
+use Rattle.stored.specs.Pieces.{typeOf, pieceAt}
+use Rattle.stored.specs.Stored.{piecesFrom}
 use Rattle.measuring.specs.declared.Weighed.{Weighed}
-use Rattle.measuring.specs.declared.Weighed.the-variants.{Takes, BadRecord as BadWeight}
-use Rattle.measuring.specs.declared.Measured.{Measured}
-use Rattle.measuring.specs.declared.Measured.the-variants.{Body, BadRecord}
+use Rattle.measuring.specs.declared.Weighed.the-variants.{Takes, NotTaken}
 use Rattle.measuring.specs.Bodies.{Lent, pieceOctets, bodyOctets}
-use Rattle.measuring.specs.Grounds.{operatorsIn, allOperators, pieceTaken, allTaken, risesIn, kindIn, inOrder, takenAfter, fitsAfter, weighedOf, piecesFrom, measured, measuredAt}
+use Rattle.measuring.specs.Grounds.{operatorsIn, allOperators, pieceTaken, allTaken, risesIn, inOrder, takenAfter, bodyTaken, bodyOf, counted}
+use Rattle.measuring.specs.Weights.{fitsAfter, weighedOf}
 use Rattle.measuring.proofs.Tests.{and-false, leb-rest}
 use Rattle.measuring.proofs.Weights.{weighed-takes, weighed-none, piece-most}
 
@@ -37,35 +31,35 @@ module _ (w : Reading) (l : Lent) (left previous : ℕ) (p : Piece) (ps : List P
       (λ a. and-false (leb (operatorsIn p + allOperators ps) left)
       (by-test (pieceTaken w l p)
       (λ b. and-false (pieceTaken w l p && allTaken w l ps)
-      (ap (λ x. x && inOrder w (kindIn p) ps) (sym (ap₂ (λ x y. x && (y && risesIn w previous (kindIn p))) a b) ∙ e)))
-      (λ b. ap (λ x. (x && allTaken w l ps) && (risesIn w previous (kindIn p) && inOrder w (kindIn p) ps)) b)))
-      (λ a. ap (λ x. x && ((pieceTaken w l p && allTaken w l ps) && (risesIn w previous (kindIn p) && inOrder w (kindIn p) ps)))
+      (ap (λ x. x && inOrder w (typeOf p) ps) (sym (ap₂ (λ x y. x && (y && risesIn w previous (typeOf p))) a b) ∙ e)))
+      (λ b. ap (λ x. (x && allTaken w l ps) && (risesIn w previous (typeOf p) && inOrder w (typeOf p) ps)) b)))
+      (λ a. ap (λ x. x && ((pieceTaken w l p && allTaken w l ps) && (risesIn w previous (typeOf p) && inOrder w (typeOf p) ps)))
       (lt-leb (operatorsIn p + allOperators ps) left (omega (arith, leb-false (operatorsIn p) left a))))
 
   module _ (e : fitsAfter w l left previous p ≡ true) where
-    parts : (leb (operatorsIn p) left ≡ true) × (pieceTaken w l p && risesIn w previous (kindIn p) ≡ true)
+    parts : (leb (operatorsIn p) left ≡ true) × (pieceTaken w l p && risesIn w previous (typeOf p) ≡ true)
     unfolding fitsAfter
-    parts = both (leb (operatorsIn p) left) (pieceTaken w l p && risesIn w previous (kindIn p)) e
+    parts = both (leb (operatorsIn p) left) (pieceTaken w l p && risesIn w previous (typeOf p)) e
 
     pub fits-few : operatorsIn p ≤ left
     fits-few = leb-true (operatorsIn p) left (parts .0)
 
     pub fits-taken : pieceTaken w l p ≡ true
-    fits-taken = both (pieceTaken w l p) (risesIn w previous (kindIn p)) (parts .1) .0
+    fits-taken = both (pieceTaken w l p) (risesIn w previous (typeOf p)) (parts .1) .0
 
-    fits-rises : risesIn w previous (kindIn p) ≡ true
-    fits-rises = both (pieceTaken w l p) (risesIn w previous (kindIn p)) (parts .1) .1
+    fits-rises : risesIn w previous (typeOf p) ≡ true
+    fits-rises = both (pieceTaken w l p) (risesIn w previous (typeOf p)) (parts .1) .1
 
-    pub after-more : takenAfter w l left previous (p ∷ ps) ≡ takenAfter w l (left - operatorsIn p) (kindIn p) ps
+    pub after-more : takenAfter w l left previous (p ∷ ps) ≡ takenAfter w l (left - operatorsIn p) (typeOf p) ps
     unfolding takenAfter allTaken inOrder allOperators
     after-more =
-        ap₂ (λ x y. x && ((y && allTaken w l ps) && (risesIn w previous (kindIn p) && inOrder w (kindIn p) ps))) (leb-rest (operatorsIn p) (allOperators ps) left fits-few) fits-taken
-        ∙ ap (λ x. leb (allOperators ps) (left - operatorsIn p) && (allTaken w l ps && (x && inOrder w (kindIn p) ps))) fits-rises
+        ap₂ (λ x y. x && ((y && allTaken w l ps) && (risesIn w previous (typeOf p) && inOrder w (typeOf p) ps))) (leb-rest (operatorsIn p) (allOperators ps) left fits-few) fits-taken
+        ∙ ap (λ x. leb (allOperators ps) (left - operatorsIn p) && (allTaken w l ps && (x && inOrder w (typeOf p) ps))) fits-rises
 
 -- what an answer of `weigh` says of the piece
 pub record Weighs (w : Reading) (l : Lent) (left previous : ℕ) (p : Piece) (t n m : ℕ) : Type 0 where
   pub fits : fitsAfter w l left previous p ≡ true
-  pub kind : kindIn p ≡ t
+  pub tag : typeOf p ≡ t
   pub size : length (pieceOctets w l p) ≡ n
   pub count : operatorsIn p ≡ m
   pub few : m ≤ left
@@ -77,129 +71,84 @@ module _ (w : Reading) (l : Lent) (left previous : ℕ) {p q : Piece} {r : Weigh
 
   pub weighs : {t n m : ℕ} → r ≡ Takes t n m → Weighs w l left previous p t n m
   weighs e =
-      let f = weighed-takes (fitsAfter w l left previous p) (kindIn p) (length (pieceOctets w l p)) (operatorsIn p) (sym is-p ∙ e) in
+      let f = weighed-takes (fitsAfter w l left previous p) (typeOf p) (length (pieceOctets w l p)) (operatorsIn p) (sym is-p ∙ e) in
       record {
         fits = f .0;
-        kind = f .1;
+        tag = f .1;
         size = f .2;
         count = f .3;
         few = omega (arith, f .3, fits-few w l left previous p [] (f .0));
         most = omega (arith, f .2, f .3, piece-most w l p (fits-taken w l left previous p [] (f .0)));
       }
 
-  pub weighs-not : r ≡ BadWeight → fitsAfter w l left previous p ≡ false
-  weighs-not e = weighed-none (fitsAfter w l left previous p) (kindIn p) (length (pieceOctets w l p)) (operatorsIn p) (sym is-p ∙ e)
+  pub weighs-not : r ≡ NotTaken → fitsAfter w l left previous p ≡ false
+  weighs-not e = weighed-none (fitsAfter w l left previous p) (typeOf p) (length (pieceOctets w l p)) (operatorsIn p) (sym is-p ∙ e)
 
--- an unused place is no piece
-no-piece : (c : FlowSpecComponent) → not (eqb (typeOf c) 0) ≡ false → pieceOf c ≡ NoRecord
-no-piece Nothing e = refl
-no-piece (DestinationPrefix p) e = absurd (false≢true (sym e))
-no-piece (SourcePrefix p) e = absurd (false≢true (sym e))
-no-piece (IpProtocol s) e = absurd (false≢true (sym e))
-no-piece (Port s) e = absurd (false≢true (sym e))
-no-piece (DestinationPort s) e = absurd (false≢true (sym e))
-no-piece (SourcePort s) e = absurd (false≢true (sym e))
-no-piece (IcmpType s) e = absurd (false≢true (sym e))
-no-piece (IcmpCode s) e = absurd (false≢true (sym e))
-no-piece (TcpFlags s) e = absurd (false≢true (sym e))
-no-piece (PacketLength s) e = absurd (false≢true (sym e))
-no-piece (Dscp s) e = absurd (false≢true (sym e))
-no-piece (Fragment s) e = absurd (false≢true (sym e))
-no-piece (FlowLabel s) e = absurd (false≢true (sym e))
+-- ---- what is left of the words
 
-part-none : (x : Part) → inRule x ≡ false → pieceIn x ≡ NoRecord
-part-none (Is c) e = no-piece c e
-part-none NoPart e = refl
+pub pieces-more : (ws : List ℕ) (at k : ℕ) → piecesFrom (suc k) ws at ≡ pieceAt ws at ∷ piecesFrom k ws (at + 4)
+unfolding piecesFrom
+pieces-more ws at k = refl
 
-picked : (b : Bool) (c : FlowSpecComponent) → inRule (pick b (Is c) NoPart) ≡ true → pieceIn (pick b (Is c) NoPart) ≡ pieceOf c
-picked true c e = refl
-picked false c e = absurd (false≢true e)
-
-module _ (ws : List ℕ) (at : ℕ) where
-  pub piece-here : inRule (partAt ws at) ≡ true → pieceIn (partAt ws at) ≡ pieceOf (componentOf (quadAt ws at))
-  unfolding partAt partOf
-  piece-here e = picked (isComponent (quadAt ws at)) (componentOf (quadAt ws at)) e
-
-  pub pieces-more : (k : ℕ) → piecesFrom (suc k) ws at ≡ pieceOf (componentOf (quadAt ws at)) ∷ piecesFrom k ws (at + 4)
-  unfolding piecesFrom componentsFrom
-  pieces-more k = refl
-
-  pub parts-more : (k : ℕ) → partsFrom (suc k) ws at ≡ (inRule (partAt ws at) && partsFrom k ws (at + 4))
-  unfolding partsFrom
-  parts-more k = refl
-
-pub body-more : (w : Reading) (l : Lent) (p : Piece) (ps : List Piece) → length (bodyOctets w l (p ∷ ps)) ≡ length (pieceOctets w l p) + length (bodyOctets w l ps)
+pub body-longer : (w : Reading) (l : Lent) (p : Piece) (ps : List Piece) → length (bodyOctets w l (p ∷ ps)) ≡ length (pieceOctets w l p) + length (bodyOctets w l ps)
 unfolding bodyOctets
-body-more w l p ps = length-append (pieceOctets w l p) (bodyOctets w l ps)
+body-longer w l p ps = length-append (pieceOctets w l p) (bodyOctets w l ps)
 
--- so many places from a word on: whether they are pieces that are taken, and how long they are
-module _ (w : Reading) (l : Lent) (ws : List ℕ) where
-  abbrev pub wholeFrom : ℕ → ℕ → ℕ → ℕ → Bool
-  wholeFrom k at left previous = partsFrom k ws at && takenAfter w l left previous (piecesFrom k ws at)
+-- a body's octets by the tests, as it is told
+abbrev pub told : Bool → ℕ → Answer ℕ
+told b n = pick b (pick (ltb 4095 n) (refuses 7 (n ∷ [])) (accepts n)) (refuses 10 [])
 
-  abbrev pub longFrom : ℕ → ℕ → ℕ
-  longFrom k at = length (bodyOctets w l (piecesFrom k ws at))
+told-body : (w : Reading) (l : Lent) (ps : List Piece) → counted (bodyOf w l ps) ≡ told (bodyTaken w l ps) (length (bodyOctets w l ps))
+unfolding bodyOf
+told-body w l ps =
+    by-test (bodyTaken w l ps)
+    (λ e. by-test (ltb 4095 (length (bodyOctets w l ps))) (λ f. rw (e, f)) (λ f. rw (e, f)))
+    (λ e. rw e)
 
-  module _ (k at left previous : ℕ) where
-    step-bad : fitsAfter w l left previous (pieceIn (partAt ws at)) ≡ false → wholeFrom (suc k) at left previous ≡ false
-    step-bad e =
-        by-test (inRule (partAt ws at))
-        (λ r. and-false (partsFrom (suc k) ws at)
-        (ap (takenAfter w l left previous) (pieces-more ws at k)
-        ∙ after-bad w l left previous (pieceOf (componentOf (quadAt ws at))) (piecesFrom k ws (at + 4)) (ap (fitsAfter w l left previous) (sym (piece-here ws at r)) ∙ e)))
-        (λ r. ap (λ x. x && takenAfter w l left previous (piecesFrom (suc k) ws at)) (parts-more ws at k ∙ ap (λ x. x && partsFrom k ws (at + 4)) r))
+-- the walk after i of n places
+module _ (w : Reading) (l : Lent) (ws : List ℕ) (n : ℕ) where
+  abbrev pub restFrom : ℕ → ℕ → ℕ → ℕ → Answer ℕ
+  restFrom i left previous body = told (takenAfter w l left previous (piecesFrom (n - i) ws (4 * i))) (body + length (bodyOctets w l (piecesFrom (n - i) ws (4 * i))))
 
-    module _ (e : fitsAfter w l left previous (pieceIn (partAt ws at)) ≡ true) where
-      never : pieceIn (partAt ws at) ≡ NoRecord → ⊥
-      unfolding pieceTaken
-      never z = false≢true (fits-taken w l left previous NoRecord [] (ap (fitsAfter w l left previous) (sym z) ∙ e))
+  pub walk-first : counted (bodyOf w l (piecesFrom n ws 0)) ≡ restFrom 0 2047 0 0
+  walk-first =
+      let e : n ≡ n - 0 = omega arith in
+      let f : length (bodyOctets w l (piecesFrom n ws 0)) ≡ 0 + length (bodyOctets w l (piecesFrom n ws 0)) = omega arith in
+      told-body w l (piecesFrom n ws 0) ∙ ap (told (bodyTaken w l (piecesFrom n ws 0))) f
+      ∙ ap (λ (k : ℕ). told (bodyTaken w l (piecesFrom k ws 0)) (0 + length (bodyOctets w l (piecesFrom k ws 0)))) e
 
-      is-in : inRule (partAt ws at) ≡ true
-      is-in = by-test (inRule (partAt ws at)) (λ r. r) (λ r. absurd (never (part-none (partAt ws at) r)))
-
-      here : pieceIn (partAt ws at) ≡ pieceOf (componentOf (quadAt ws at))
-      here = piece-here ws at is-in
-
-      split : piecesFrom (suc k) ws at ≡ pieceIn (partAt ws at) ∷ piecesFrom k ws (at + 4)
-      split = pieces-more ws at k ∙ ap (λ p. p ∷ piecesFrom k ws (at + 4)) (sym here)
-
-      step-more : wholeFrom (suc k) at left previous ≡ wholeFrom k (at + 4) (left - operatorsIn (pieceIn (partAt ws at))) (kindIn (pieceIn (partAt ws at)))
-      step-more =
-          ap₂ (λ x ps. x && takenAfter w l left previous ps) (parts-more ws at k ∙ ap (λ x. x && partsFrom k ws (at + 4)) is-in) split
-          ∙ ap (λ x. partsFrom k ws (at + 4) && x) (after-more w l left previous (pieceIn (partAt ws at)) (piecesFrom k ws (at + 4)) e)
-
-      step-long : longFrom (suc k) at ≡ length (pieceOctets w l (pieceIn (partAt ws at))) + longFrom k (at + 4)
-      step-long = ap (λ ps. length (bodyOctets w l ps)) split ∙ body-more w l (pieceIn (partAt ws at)) (piecesFrom k ws (at + 4))
-
-  -- the walk after i of n places
-  module _ (n : ℕ) where
-    abbrev pub restFrom : ℕ → ℕ → ℕ → ℕ → Measured
-    restFrom i left previous body = measured (wholeFrom (n - i) (4 * i) left previous) (body + longFrom (n - i) (4 * i))
-
-    pub walk-first : measuredAt w l ws n ≡ restFrom 0 2047 0 0
-    walk-first = let e : n - 0 ≡ n = omega arith in let f : (m : ℕ) → 0 + m ≡ m = λ m. omega arith in rw (e, f (longFrom n 0))
-
-    pub walk-end : (i left previous body : ℕ) → n ≤ i → Body body ≡ restFrom i left previous body
-    unfolding partsFrom takenAfter piecesFrom componentsFrom allTaken inOrder allOperators bodyOctets
-    walk-end i left previous body h =
+  module _ (i left previous body : ℕ) where
+    walk-end : n ≤ i → restFrom i left previous body ≡ told true body
+    unfolding takenAfter piecesFrom allTaken inOrder allOperators bodyOctets
+    walk-end h =
         let e : n - i ≡ 0 = omega arith in
         let f : body + 0 ≡ body = omega arith in
         rw (e, le-leb 0 left (omega arith), f)
 
-    module _ (i left previous body : ℕ) (h : i < n) where
-      pub walk-bad : fitsAfter w l left previous (pieceIn (partAt ws (4 * i))) ≡ false → restFrom i left previous body ≡ BadRecord
-      walk-bad e =
-          let k : n - i ≡ suc (n - (i + 1)) = omega arith in
-          ap (λ (m : ℕ). measured (wholeFrom m (4 * i) left previous) (body + longFrom m (4 * i))) k
-          ∙ ap (λ b. measured b (body + longFrom (suc (n - (i + 1))) (4 * i))) (step-bad (n - (i + 1)) (4 * i) left previous e)
+    pub walk-large : n ≤ i → 4095 < body → restFrom i left previous body ≡ refuses 7 (body ∷ [])
+    walk-large h k = walk-end h ∙ rw (lt-ltb 4095 body k)
 
-      pub walk-more : {t m o : ℕ} → fitsAfter w l left previous (pieceIn (partAt ws (4 * i))) ≡ true → kindIn (pieceIn (partAt ws (4 * i))) ≡ t → length (pieceOctets w l (pieceIn (partAt ws (4 * i)))) ≡ m
-          → operatorsIn (pieceIn (partAt ws (4 * i))) ≡ o → restFrom i left previous body ≡ restFrom (i + 1) (left - o) t (body + m)
-      walk-more {t} {m} {o} e ft fm fo =
+    pub walk-done : n ≤ i → body ≤ 4095 → restFrom i left previous body ≡ accepts body
+    walk-done h k = walk-end h ∙ rw (le-ltb 4095 body k)
+
+    module _ (h : i < n) where
+      split : piecesFrom (n - i) ws (4 * i) ≡ pieceAt ws (4 * i) ∷ piecesFrom (n - (i + 1)) ws (4 * (i + 1))
+      split =
           let k : n - i ≡ suc (n - (i + 1)) = omega arith in
           let a : 4 * i + 4 ≡ 4 * (i + 1) = omega arith in
-          let r = n - (i + 1) in
-          let b : wholeFrom (suc r) (4 * i) left previous ≡ wholeFrom r (4 * (i + 1)) (left - o) t = step-more r (4 * i) left previous e ∙ rw (fo, ft, a) in
-          let d : longFrom (suc r) (4 * i) ≡ m + longFrom r (4 * (i + 1)) = step-long r (4 * i) left previous e ∙ rw (fm, a) in
-          let c : body + longFrom (suc r) (4 * i) ≡ body + m + longFrom r (4 * (i + 1)) = omega (arith, d) in
-          ap (λ (j : ℕ). measured (wholeFrom j (4 * i) left previous) (body + longFrom j (4 * i))) k ∙ ap₂ measured b c
+          ap (λ (j : ℕ). piecesFrom j ws (4 * i)) k ∙ pieces-more ws (4 * i) (n - (i + 1))
+          ∙ ap (λ (j : ℕ). pieceAt ws (4 * i) ∷ piecesFrom (n - (i + 1)) ws j) a
+
+      pub walk-bad : fitsAfter w l left previous (pieceAt ws (4 * i)) ≡ false → restFrom i left previous body ≡ refuses 10 []
+      walk-bad e =
+          ap (λ ps. told (takenAfter w l left previous ps) (body + length (bodyOctets w l ps))) split
+          ∙ ap (λ b. told b (body + length (bodyOctets w l (pieceAt ws (4 * i) ∷ piecesFrom (n - (i + 1)) ws (4 * (i + 1))))))
+          (after-bad w l left previous (pieceAt ws (4 * i)) (piecesFrom (n - (i + 1)) ws (4 * (i + 1))) e)
+
+      pub walk-more : {t m o : ℕ} → Weighs w l left previous (pieceAt ws (4 * i)) t m o → restFrom i left previous body ≡ restFrom (i + 1) (left - o) t (body + m)
+      walk-more {t} {m} {o} g =
+          let p = pieceAt ws (4 * i) in
+          let ps = piecesFrom (n - (i + 1)) ws (4 * (i + 1)) in
+          let b : takenAfter w l left previous (p ∷ ps) ≡ takenAfter w l (left - o) t ps = after-more w l left previous p ps (g .fits) ∙ rw (g .count, g .tag) in
+          let c : body + length (bodyOctets w l (p ∷ ps)) ≡ body + m + length (bodyOctets w l ps) = omega (arith, body-longer w l p ps, g .size) in
+          ap (λ qs. told (takenAfter w l left previous qs) (body + length (bodyOctets w l qs))) split ∙ ap₂ told b c

@@ -6,6 +6,7 @@ use native.Mathlib.Omega.{arith}
 use borrow.Author.Tests.{le-leb, lt-leb, leb-true, eqb-true, ltb-true}
 use lib.Dec.{eqb, leb, ltb}
 use lib.ListN.{length}
+use Rattle.ground.specs.Picks.{pick}
 use Rattle.ground.proofs.Cases.{by-test, both}
 use Rattle.choices.specs.declared.Reading.{Reading}
 use Rattle.choices.specs.declared.Reading.the-variants.{Plain, Ipv4, Ipv6}
@@ -18,11 +19,14 @@ use Rattle.prefixwriting.specs.Writings.{octetsInPlain, octetsInStandard, stand
 use Rattle.prefixwriting.proofs.Puts.{length-plain, length-standard, valid-ranged}
 use Rattle.listwriting.specs.Lists.{sizeIn}
 use Rattle.listwriting.proofs.Sizes.{length-list, size-most}
-use Rattle.pieces.specs.declared.Piece.{Piece}
-use Rattle.pieces.specs.declared.Piece.the-variants.{Prefix, Operators, NoRecord}
-use Rattle.measuring.specs.declared.Weighed.the-variants.{Takes, BadRecord}
+use Rattle.stored.specs.declared.Piece.{Piece}
+use Rattle.stored.specs.declared.Piece.the-variants.{Prefix, Operators, NoRecord}
+use Rattle.stored.specs.Pieces.{typeOf}
+use Rattle.listwriting.specs.declared.ListSize.the-variants.{Octets, NotTaken as NoList}
+use Rattle.measuring.specs.declared.Weighed.the-variants.{Takes, NotTaken}
 use Rattle.measuring.specs.Bodies.{Lent, opsOf, prefixOctets, pieceOctets}
-use Rattle.measuring.specs.Grounds.{operatorsIn, insideOf, prefixTaken, listTaken, pieceTaken, risesIn, kindIn, fitsAfter, weighed, weighedOf}
+use Rattle.measuring.specs.Grounds.{operatorsIn, insideOf, prefixTaken, listTaken, pieceTaken, risesIn}
+use Rattle.measuring.specs.Weights.{fitsAfter, weighed, weighedOf, listSize}
 use Rattle.measuring.proofs.Tests.{and-false}
 
 -- a prefix that is taken has at most 18 octets
@@ -67,10 +71,10 @@ piece-most w l NoRecord e = omega arith
 
 -- what is weighed, by the tests
 module _ (w : Reading) (l : Lent) (left previous : ℕ) (p : Piece) where
-  pub weighed-yes : {n : ℕ} → fitsAfter w l left previous p ≡ true → n ≡ length (pieceOctets w l p) → Takes (kindIn p) n (operatorsIn p) ≡ weighedOf w l left previous p
+  pub weighed-yes : {n : ℕ} → fitsAfter w l left previous p ≡ true → n ≡ length (pieceOctets w l p) → Takes (typeOf p) n (operatorsIn p) ≡ weighedOf w l left previous p
   weighed-yes e f = rw (e, f)
 
-  pub weighed-no : fitsAfter w l left previous p ≡ false → BadRecord ≡ weighedOf w l left previous p
+  pub weighed-no : fitsAfter w l left previous p ≡ false → NotTaken ≡ weighedOf w l left previous p
   weighed-no e = rw e
 
 -- and what it says of the tests
@@ -78,7 +82,7 @@ pub weighed-takes : (b : Bool) (t n m : ℕ) {t' n' m' : ℕ} → weighed b t n 
 weighed-takes true t n m e = (refl, cc, cc, cc)
 weighed-takes false t n m e = let z : _≡_ {A = ℕ} 0 1 = cc in absurd (omega arith)
 
-pub weighed-none : (b : Bool) (t n m : ℕ) → weighed b t n m ≡ BadRecord → b ≡ false
+pub weighed-none : (b : Bool) (t n m : ℕ) → weighed b t n m ≡ NotTaken → b ≡ false
 weighed-none true t n m e = let z : _≡_ {A = ℕ} 0 1 = cc in absurd (omega arith)
 weighed-none false t n m e = refl
 
@@ -90,9 +94,18 @@ weighed-prefix w l left previous t p =
     let e : 1 + length (prefixOctets w p) ≡ suc (length (prefixOctets w p)) = omega arith in
     rw (le-leb 0 left (omega arith)) (ap (λ (n : ℕ). weighed (prefixTaken w p && risesIn w previous t) t n 0) e)
 
-pub weighed-nothing : (w : Reading) (l : Lent) (left previous : ℕ) → BadRecord ≡ weighedOf w l left previous NoRecord
+pub weighed-nothing : (w : Reading) (l : Lent) (left previous : ℕ) → NotTaken ≡ weighedOf w l left previous NoRecord
 unfolding fitsAfter pieceTaken
 weighed-nothing w l left previous = rw (le-leb 0 left (omega arith))
+
+-- what an answer of `list_size` says of a list
+pub size-some : (b : Bool) (m : ℕ) {n : ℕ} → pick b (Octets m) NoList ≡ Octets n → (b ≡ true) × (m ≡ n)
+size-some true m e = (refl, cc)
+size-some false m e = let z : _≡_ {A = ℕ} 0 1 = cc in absurd (omega arith)
+
+pub size-none : (b : Bool) (m : ℕ) → pick b (Octets m) NoList ≡ NoList → b ≡ false
+size-none true m e = let z : _≡_ {A = ℕ} 0 1 = cc in absurd (omega arith)
+size-none false m e = refl
 
 -- a list
 module _ (w : Reading) (l : Lent) (left previous t start n : ℕ) where
@@ -104,9 +117,9 @@ module _ (w : Reading) (l : Lent) (left previous t start n : ℕ) where
   unfolding fitsAfter pieceTaken
   list-outside e = and-false (leb n left) (ap (λ b. (b && listTaken w (opsOf l start n)) && risesIn w previous t) e)
 
-  pub list-bad : insideOf l start n ≡ true → listTaken w (opsOf l start n) ≡ false → fitsAfter w l left previous (Operators t start n) ≡ false
+  pub list-bad : listTaken w (opsOf l start n) ≡ false → fitsAfter w l left previous (Operators t start n) ≡ false
   unfolding fitsAfter pieceTaken
-  list-bad e f = and-false (leb n left) (ap (λ b. (b && listTaken w (opsOf l start n)) && risesIn w previous t) e ∙ ap (λ b. b && risesIn w previous t) f)
+  list-bad f = and-false (leb n left) (ap (λ b. b && risesIn w previous t) (and-false (insideOf l start n) f))
 
   pub list-falls : risesIn w previous t ≡ false → fitsAfter w l left previous (Operators t start n) ≡ false
   unfolding fitsAfter pieceTaken

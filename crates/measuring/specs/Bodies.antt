@@ -1,5 +1,5 @@
 -- The octets of a rule's components by each writing, one component after the other: document 01, "Writing"; RFC 8955, 4.2. What is written
--- of a prefix stands in `prefixwriting`, of a list in `choices`.
+-- of a prefix stands in `prefixwriting`, of a list in `operators`.
 use Prim.Native.Nat.{ℕ, _+_}
 use mathlib.Core.List.{List, [], _∷_, _++_}
 use Rattle.choices.specs.declared.Reading.{Reading}
@@ -7,8 +7,8 @@ use Rattle.choices.specs.declared.Reading.the-variants.{Plain, Ipv4, Ipv6}
 use Rattle.operators.specs.Ops.{kindOf, Op, opsIn, listOctets}
 use Rattle.rules.specs.declared.NetworkPrefix.{NetworkPrefix}
 use Rattle.prefixwriting.specs.Writings.{plainOctets, standardOctets}
-use Rattle.pieces.specs.declared.Piece.{Piece}
-use Rattle.pieces.specs.declared.Piece.the-variants.{Prefix, Operators, NoRecord}
+use Rattle.stored.specs.declared.Piece.{Piece}
+use Rattle.stored.specs.declared.Piece.the-variants.{Prefix, Operators, NoRecord}
 
 -- the lent lists, and the place in them where the rule's operators begin
 pub record Lent : Type 0 where

@@ -1,27 +1,26 @@
 -- Which components each writing takes; the others are BadRecord: document 01, "Writing". A width that is none of the four can't be named by
--- an operator octet, and "at most 13 components" is tested where the rule is (`writing`).
+-- an operator octet, and "at most 13 components" is tested where the rule is (`stored`).
 use Prim.Native.Nat.{ℕ, _+_}
-use mathlib.Core.List.{List, [], _∷_, map}
+use mathlib.Core.List.{List, [], _∷_}
 use mathlib.Core.Bool.{Bool, true, false, _&&_, _||_}
 use lib.ListN.{length}
 use lib.Dec.{eqb, leb, ltb}
+use Rattle.ground.specs.Answers.{Answer, accepts, refuses, declines}
 use Rattle.ground.specs.Picks.{pick}
+use Rattle.refusals.specs.Refusals.{refusal}
 use Rattle.choices.specs.declared.Reading.{Reading}
 use Rattle.choices.specs.declared.Reading.the-variants.{Plain, Ipv4, Ipv6}
 use Rattle.choices.specs.Choices.{lastType}
 use Rattle.operators.specs.Ops.{Op}
 use Rattle.rules.specs.declared.NetworkPrefix.{NetworkPrefix}
 use Rattle.prefixes.specs.Forms.{inRange, validIn}
+use Rattle.stored.specs.declared.Piece.{Piece}
+use Rattle.stored.specs.declared.Piece.the-variants.{Prefix, Operators, NoRecord}
+use Rattle.stored.specs.Pieces.{typeOf}
 use Rattle.listwriting.specs.Lists.{takes}
-use Rattle.stored.specs.Stored.{componentsFrom, partsFrom}
-use Rattle.pieces.specs.Pieces.{pieceOf}
-use Rattle.pieces.specs.declared.Piece.{Piece}
-use Rattle.pieces.specs.declared.Piece.the-variants.{Prefix, Operators, NoRecord}
-use Rattle.measuring.specs.declared.Weighed.{Weighed}
-use Rattle.measuring.specs.declared.Weighed.the-variants.{Takes, BadRecord as TakesNone}
 use Rattle.measuring.specs.declared.Measured.{Measured}
-use Rattle.measuring.specs.declared.Measured.the-variants.{Body, BadRecord as NoBody}
-use Rattle.measuring.specs.Bodies.{Lent, opsOf, pieceOctets, bodyOctets}
+use Rattle.measuring.specs.declared.Measured.the-variants.{Body, Refused}
+use Rattle.measuring.specs.Bodies.{Lent, opsOf, bodyOctets}
 
 -- "and, their counts summed, 2,047 operators"
 abbrev pub operatorsIn : Piece → ℕ
@@ -51,6 +50,7 @@ listTaken Plain os = true
 listTaken Ipv4 os = takes os
 listTaken Ipv6 os = takes os
 
+-- four words that are no component are taken by no writing
 unfoldable pub pieceTaken : Reading → Lent → Piece → Bool
 pieceTaken w l (Prefix t p) = prefixTaken w p
 pieceTaken w l (Operators t start count) = insideOf l start count && listTaken w (opsOf l start count)
@@ -66,14 +66,9 @@ risesIn Plain previous t = true
 risesIn Ipv4 previous t = ltb previous t && leb t (lastType Ipv4)
 risesIn Ipv6 previous t = ltb previous t && leb t (lastType Ipv6)
 
-abbrev pub kindIn : Piece → ℕ
-kindIn (Prefix t p) = t
-kindIn (Operators t start count) = t
-kindIn NoRecord = 0
-
 unfoldable pub inOrder : Reading → ℕ → List Piece → Bool
 inOrder w previous [] = true
-inOrder w previous (p ∷ ps) = risesIn w previous (kindIn p) && inOrder w (kindIn p) ps
+inOrder w previous (p ∷ ps) = risesIn w previous (typeOf p) && inOrder w (typeOf p) ps
 
 -- what a writing takes, with so many operators left and after a type
 unfoldable pub takenAfter : Reading → Lent → ℕ → ℕ → List Piece → Bool
@@ -82,22 +77,17 @@ takenAfter w l left previous ps = leb (allOperators ps) left && (allTaken w l ps
 abbrev pub bodyTaken : Reading → Lent → List Piece → Bool
 bodyTaken w l ps = takenAfter w l 2047 0 ps
 
--- the tests of one piece in turn, and what it adds; a body's length
-unfoldable pub fitsAfter : Reading → Lent → ℕ → ℕ → Piece → Bool
-fitsAfter w l left previous p = leb (operatorsIn p) left && (pieceTaken w l p && risesIn w previous (kindIn p))
+-- the body, or why there is none: BadRecord; then "Bodies over 4095 octets are ValueTooLarge", with the body's length
+unfoldable pub bodyOf : Reading → Lent → List Piece → Answer (List ℕ)
+bodyOf w l ps =
+    pick (bodyTaken w l ps) (pick (ltb 4095 (length (bodyOctets w l ps))) (refuses 7 (length (bodyOctets w l ps) ∷ [])) (accepts (bodyOctets w l ps)))
+    (refuses 10 [])
 
-abbrev pub weighed : Bool → ℕ → ℕ → ℕ → Weighed
-weighed b t size count = pick b (Takes t size count) TakesNone
+-- how many octets an answer has, and how many were measured, as it is told
+abbrev pub counted : Answer (List ℕ) → Answer ℕ
+counted (accepts xs) = accepts (length xs)
+counted (declines f) = declines f
 
-abbrev pub weighedOf : Reading → Lent → ℕ → ℕ → Piece → Weighed
-weighedOf w l left previous p = weighed (fitsAfter w l left previous p) (kindIn p) (length (pieceOctets w l p)) (operatorsIn p)
-
--- the pieces of so many places of stored words, and what a body of them takes: none where a place is no component
-unfoldable pub piecesFrom : ℕ → List ℕ → ℕ → List Piece
-piecesFrom n ws at = map pieceOf (componentsFrom n ws at)
-
-abbrev pub measured : Bool → ℕ → Measured
-measured b n = pick b (Body n) NoBody
-
-abbrev pub measuredAt : Reading → Lent → List ℕ → ℕ → Measured
-measuredAt w l ws n = measured (partsFrom n ws 0 && bodyTaken w l (piecesFrom n ws 0)) (length (bodyOctets w l (piecesFrom n ws 0)))
+abbrev pub toldMeasured : Measured → Answer ℕ
+toldMeasured (Body n) = accepts n
+toldMeasured (Refused f) = refusal f

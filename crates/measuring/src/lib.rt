@@ -7,46 +7,52 @@ ghost use mathlib.Core.Bool.{true, _&&_};
 ghost use lib.Dec.{ltb, leb};
 ghost use Prim.Native.Nat.{_+_, _*_, _≤_};
 ghost use lib.ListN.{length};
-ghost use Rattle.listwriting.specs.Lists.{sizeIn, takes};
-ghost use Rattle.measuring.specs.Bodies.{lent, opsOf, prefixOctets};
-ghost use Rattle.measuring.specs.Grounds.{insideOf, prefixTaken, listTaken, risesIn, weighed, weighedOf, measuredAt};
+ghost use Rattle.ground.specs.Picks.{pick};
+ghost use Rattle.stored.specs.Stored.{piecesFrom};
+ghost use Rattle.listwriting.specs.Lists.{sizeIn, standardSize};
+ghost use Rattle.measuring.specs.Bodies.{lent, prefixOctets};
+ghost use Rattle.measuring.specs.Grounds.{insideOf, prefixTaken, risesIn, bodyOf, counted, toldMeasured};
+ghost use Rattle.measuring.specs.Weights.{weighed, weighedOf, listSize};
 use choices::Reading;
-use pieces::Piece;
+use listwriting::ListSize;
+use refusals::Fault;
+use refusals::FlowSpecError;
 use rules::NetworkPrefix;
+use stored::Piece;
 
 // What a piece adds to a body, where the writing takes it.
 pub enum Weighed {
     Takes {
-        kind: u8,
+        tag: u8,
         octets: usize,
         operators: usize,
     },
-    BadRecord,
+    NotTaken,
 }
 
-// How many octets a body takes, where the writing takes it.
+// How many octets a body takes, or why there is none: BadRecord or ValueTooLarge.
 pub enum Measured {
     Body(usize),
-    BadRecord,
+    Refused(Fault),
 }
 
-fn rises_to(previous: u8, kind: u8, last: u8) -> bool
-    ensures { λ r. ⌜ r ≡ (ltb previous kind && leb kind last) ⌝ }
+fn rises_to(previous: u8, tag: u8, last: u8) -> bool
+    ensures { λ r. ⌜ r ≡ (ltb previous tag && leb tag last) ⌝ }
 {
-    if previous < kind {
-        return kind <= last;
+    if previous < tag {
+        return tag <= last;
     }
     false
 }
 
 // Whether a type may follow another.
-fn rises(writing: Reading, previous: u8, kind: u8) -> bool
-    ensures { λ r. ⌜ r ≡ risesIn writing previous kind ⌝ }
+fn rises(writing: Reading, previous: u8, tag: u8) -> bool
+    ensures { λ r. ⌜ r ≡ risesIn writing previous tag ⌝ }
 {
     match writing {
         Reading::Plain => true,
-        Reading::Ipv4 => rises_to(previous, kind, 12),
-        Reading::Ipv6 => rises_to(previous, kind, 13),
+        Reading::Ipv4 => rises_to(previous, tag, 12),
+        Reading::Ipv6 => rises_to(previous, tag, 13),
     }
 }
 
@@ -71,17 +77,27 @@ pub fn prefix_size(writing: Reading, prefix: NetworkPrefix) -> usize
     }
 }
 
-// Whether so many places from a place on lie within a list of some size. Nothing is added: a sum that no word holds lies within no list.
-fn within(size: usize, first: usize, start: usize, count: usize) -> bool
-    ensures { λ r. ⌜ r ≡ leb (first + start + count) size ⌝ }
+// Whether so many places from a place on lie below a bound. Nothing is added: a sum that no word holds lies below none.
+fn lies_below(bound: usize, first: usize, start: usize, count: usize) -> bool
+    ensures { λ r. ⌜ r ≡ leb (first + start + count) bound ⌝ }
 {
-    if size < count {
+    if bound < count {
         return false;
     }
-    if size - count < start {
+    if bound - count < start {
         return false;
     }
-    first <= size - count - start
+    first <= bound - count - start
+}
+
+// "unequal lists count as the shorter"
+fn shorter(a: usize, b: usize) -> usize
+    ensures { λ r. ⌜ r ≡ pick (leb a b) a b ⌝ }
+{
+    if a <= b {
+        return a;
+    }
+    b
 }
 
 fn inside(values: &[u64], octets: &[u8], first: usize, start: usize, count: usize) -> bool
@@ -90,41 +106,10 @@ fn inside(values: &[u64], octets: &[u8], first: usize, start: usize, count: usiz
     if count == 0 {
         return true;
     }
-    if within(values.len(), first, start, count) {
-        return within(octets.len(), first, start, count);
-    }
-    false
+    lies_below(shorter(values.len(), octets.len()), first, start, count)
 }
 
-fn standard_taken(values: &[u64], octets: &[u8], first: usize, start: usize, count: usize) -> bool
-    requires { ⌜ insideOf (lent (now values) (now octets) first) start count ≡ true ⌝ }
-    ensures { λ r. ⌜ r ≡ takes (opsOf (lent (now (values .entry)) (now (octets .entry)) first) start count) ⌝ }
-{
-    if count == 0 {
-        return false;
-    }
-    listwriting::taken(values, octets, first + start, count)
-}
-
-fn list_taken(
-    writing: Reading,
-    values: &[u64],
-    octets: &[u8],
-    first: usize,
-    start: usize,
-    count: usize,
-) -> bool
-    requires { ⌜ insideOf (lent (now values) (now octets) first) start count ≡ true ⌝ }
-    ensures { λ r. ⌜ r ≡ listTaken writing (opsOf (lent (now (values .entry)) (now (octets .entry)) first) start count) ⌝ }
-{
-    match writing {
-        Reading::Plain => true,
-        Reading::Ipv4 => standard_taken(values, octets, first, start, count),
-        Reading::Ipv6 => standard_taken(values, octets, first, start, count),
-    }
-}
-
-fn list_size(values: &[u64], octets: &[u8], first: usize, start: usize, count: usize) -> usize
+fn plain_size(values: &[u64], octets: &[u8], first: usize, start: usize, count: usize) -> usize
     requires { ⌜ (insideOf (lent (now values) (now octets) first) start count ≡ true) × (count ≤ 2047) ⌝ }
     ensures { λ r. ⌜ r ≡ sizeIn (now (octets .entry)) (first + start) count ⌝ }
 {
@@ -134,19 +119,53 @@ fn list_size(values: &[u64], octets: &[u8], first: usize, start: usize, count: u
     listwriting::size(octets, first + start, count)
 }
 
-fn weigh_prefix(writing: Reading, previous: u8, kind: u8, prefix: NetworkPrefix) -> Weighed
-    ensures { λ r. ⌜ r ≡ weighed (prefixTaken writing prefix && risesIn writing previous kind) kind (1 + length (prefixOctets writing prefix)) 0 ⌝ }
+fn standard_size(
+    values: &[u64],
+    octets: &[u8],
+    first: usize,
+    start: usize,
+    count: usize,
+) -> ListSize
+    requires { ⌜ (insideOf (lent (now values) (now octets) first) start count ≡ true) × (count ≤ 2047) ⌝ }
+    ensures { λ r. ⌜ r ≡ standardSize (now (values .entry)) (now (octets .entry)) (first + start) count ⌝ }
+{
+    if count == 0 {
+        return ListSize::NotTaken;
+    }
+    listwriting::standard_size(values, octets, first + start, count)
+}
+
+fn list_size(
+    writing: Reading,
+    values: &[u64],
+    octets: &[u8],
+    first: usize,
+    start: usize,
+    count: usize,
+) -> ListSize
+    requires { ⌜ (insideOf (lent (now values) (now octets) first) start count ≡ true) × (count ≤ 2047) ⌝ }
+    ensures { λ r. ⌜ r ≡ listSize writing (lent (now (values .entry)) (now (octets .entry)) first) start count ⌝ }
+{
+    match writing {
+        Reading::Plain => ListSize::Octets(plain_size(values, octets, first, start, count)),
+        Reading::Ipv4 => standard_size(values, octets, first, start, count),
+        Reading::Ipv6 => standard_size(values, octets, first, start, count),
+    }
+}
+
+fn weigh_prefix(writing: Reading, previous: u8, tag: u8, prefix: NetworkPrefix) -> Weighed
+    ensures { λ r. ⌜ r ≡ weighed (prefixTaken writing prefix && risesIn writing previous tag) tag (1 + length (prefixOctets writing prefix)) 0 ⌝ }
 {
     if prefix_taken(writing, prefix) {
-        if rises(writing, previous, kind) {
+        if rises(writing, previous, tag) {
             return Weighed::Takes {
-                kind: kind,
+                tag: tag,
                 octets: 1 + prefix_size(writing, prefix),
                 operators: 0,
             };
         }
     }
-    Weighed::BadRecord
+    Weighed::NotTaken
 }
 
 fn weigh_list(
@@ -156,27 +175,29 @@ fn weigh_list(
     first: usize,
     left: usize,
     previous: u8,
-    kind: u8,
+    tag: u8,
     start: usize,
     count: usize,
 ) -> Weighed
     requires { ⌜ left ≤ 2047 ⌝ }
-    ensures { λ r. ⌜ r ≡ weighedOf writing (lent (now (values .entry)) (now (octets .entry)) first) left previous (Piece.Operators kind start count) ⌝ }
+    ensures { λ r. ⌜ r ≡ weighedOf writing (lent (now (values .entry)) (now (octets .entry)) first) left previous (Piece.Operators tag start count) ⌝ }
 {
     if count <= left {
         if inside(values, octets, first, start, count) {
-            if list_taken(writing, values, octets, first, start, count) {
-                if rises(writing, previous, kind) {
-                    return Weighed::Takes {
-                        kind: kind,
-                        octets: 1 + list_size(values, octets, first, start, count),
-                        operators: count,
-                    };
-                }
+            if rises(writing, previous, tag) {
+                let size = list_size(writing, values, octets, first, start, count);
+                let ListSize::Octets(n) = size else {
+                    return Weighed::NotTaken;
+                };
+                return Weighed::Takes {
+                    tag: tag,
+                    octets: 1 + n,
+                    operators: count,
+                };
             }
         }
     }
-    Weighed::BadRecord
+    Weighed::NotTaken
 }
 
 // What a piece adds to a body, with so many operators left and after a type.
@@ -193,24 +214,24 @@ fn weigh(
     ensures { λ r. ⌜ r ≡ weighedOf writing (lent (now (values .entry)) (now (octets .entry)) first) left previous piece ⌝ }
 {
     match piece {
-        Piece::Prefix { kind, prefix } => weigh_prefix(writing, previous, kind, prefix),
-        Piece::Operators { kind, start, count } => weigh_list(
+        Piece::Prefix { tag, prefix } => weigh_prefix(writing, previous, tag, prefix),
+        Piece::Operators { tag, start, count } => weigh_list(
             writing,
             values,
             octets,
             first,
             left,
             previous,
-            kind,
+            tag,
             start,
             count,
         ),
-        Piece::NoRecord => Weighed::BadRecord,
+        Piece::NoRecord => Weighed::NotTaken,
     }
 }
 
-// The first walk: it writes nothing and answers everything. No entry point.
-pub fn measure(
+// The first walk, over so many components at the front of the words. No entry point.
+pub fn measure_body(
     writing: Reading,
     words: &[u64],
     count: usize,
@@ -219,27 +240,34 @@ pub fn measure(
     octets: &[u8],
 ) -> Measured
     requires { ⌜ (count ≤ 13) × (4 * count ≤ length (now words)) ⌝ }
-    ensures { λ r. ⌜ r ≡ measuredAt writing (lent (now (values .entry)) (now (octets .entry)) first) (now (words .entry)) count ⌝ }
+    ensures { λ r. ⌜ toldMeasured r ≡ counted (bodyOf writing (lent (now (values .entry)) (now (octets .entry)) first) (piecesFrom count (now (words .entry)) 0)) ⌝ }
 {
     let mut body: usize = 0;
     let mut left: usize = 2047;
     let mut previous: u8 = 0;
     let mut i: usize = 0;
     while i < count {
-        let piece = pieces::piece_at(words, 4 * i);
+        let piece = stored::piece_at(words, 4 * i);
         let w = weigh(writing, values, octets, first, left, previous, piece);
         let Weighed::Takes {
-            kind,
+            tag,
             octets: n,
             operators,
         } = w
         else {
-            return Measured::BadRecord;
+            return Measured::Refused(Fault {
+                error: FlowSpecError::BadRecord,
+            });
         };
         body += n;
         left -= operators;
-        previous = kind;
+        previous = tag;
         i += 1;
+    }
+    if 4095 < body {
+        return Measured::Refused(Fault {
+            error: FlowSpecError::ValueTooLarge(body),
+        });
     }
     Measured::Body(body)
 }

@@ -1,5 +1,5 @@
-pub mod Frames
-pub mod Lengths
+pub mod Laws
 pub mod Once
-pub mod Scans
-pub mod Values
+pub mod Stores
+pub mod Turns
+pub mod Ways

@@ -1,22 +1,32 @@
 // Whole rules written: the plain writing (encode_flowspec_nlri in nlri.rs) and the standard one. A rule is measured whole before its first
-// octet is written, since a refusal changes nothing.
+// octet is written, since a refusal changes nothing: `measure` answers everything and `put` only stores, so that a caller with many rules can
+// test all of them before it stores one.
 //
 // The functions with a `requires` are no entry points.
 ghost use mathlib.Core.Path.{_≡_};
-ghost use mathlib.Core.Bool.{_&&_};
-ghost use Prim.Native.Nat.{_-_, _*_, _≤_};
-ghost use lib.ListN.{length, getD};
+ghost use mathlib.Core.Bool.{true};
+ghost use mathlib.Core.List.{_∷_};
+ghost use Prim.Native.Nat.{_+_, _-_, _*_, _/_, _^_, _≤_};
+ghost use lib.ListN.{length};
 ghost use lib.Seq.{sets};
+ghost use Rattle.ground.specs.Answers.{accepts};
+ghost use Rattle.octets.specs.Spell.{spelled};
 ghost use Rattle.octets.specs.Lengths.{lengthOctets};
-ghost use Rattle.stored.specs.Stored.{zerosFrom};
-ghost use Rattle.writing.specs.Writings.{toldWritten, counted, octetsIn, writtenFrom, writtenIn, writtenNlri};
-ghost use Rattle.writing.specs.Frames.{framed, writtenBody};
+ghost use Rattle.operators.specs.Ops.{kindOf, listOctets};
+ghost use Rattle.prefixes.specs.Prefixes.{octetsOf};
+ghost use Rattle.prefixwriting.specs.Writings.{frontOctets};
+ghost use Rattle.stored.specs.Stored.{piecesFrom};
+ghost use Rattle.listwriting.specs.Lists.{sizeIn};
+ghost use Rattle.measuring.specs.Bodies.{lent, opsOf, prefixOctets, pieceOctets, bodyOctets};
+ghost use Rattle.measuring.specs.Grounds.{insideOf, prefixTaken, pieceTaken, allTaken, counted, toldMeasured};
+ghost use Rattle.writing.specs.Writings.{toldWritten, octetsIn, nlriOctets, bodyFrom, writtenFrom, writtenIn};
 use choices::Reading;
+use choices::Standard;
 use measuring::Measured;
 use refusals::Fault;
 use refusals::FlowSpecError;
-use rules::FlowSpecNlri;
-use stored::Stored;
+use rules::NetworkPrefix;
+use stored::Piece;
 
 // How many octets were written, or why none.
 pub enum Written {
@@ -24,36 +34,151 @@ pub enum Written {
     Refused(Fault),
 }
 
-// Whether the words from one up to another are all 0. With no way out of the loop, it goes four words at a time.
-fn all_zero(words: &[u64], from: usize, to: usize) -> bool
-    requires { ⌜ (from ≤ to) × (to ≤ length (now words)) ⌝ }
-    ensures { λ r. ⌜ r ≡ zerosFrom (to - from) (now (words .entry)) from ⌝ }
+// The first k of the four octets of an IPv4 address, straight: nearly every rule has one.
+fn put_high(out: &mut [u8], at: usize, k: usize, v: u64)
+    requires { ⌜ (k ≤ 4) × (at + k ≤ length (now out)) ⌝ }
+    ensures { λ _. ⌜ now (out .exit) ≡ sets (now (out .entry)) at (spelled k (v / 2 ^ (32 - 8 * k))) ⌝ }
 {
-    let mut sum: u64 = 0;
-    let mut at = from;
-    while at < to {
-        sum = sum | words[at];
-        at += 1;
+    match k {
+        0 => {}
+        1 => octets::write_value(out, at, 0, v / 16777216),
+        2 => octets::write_value(out, at, 1, v / 65536),
+        3 => {
+            octets::write_value(out, at, 1, v / 65536);
+            octets::write_value(out, at + 2, 0, v / 256);
+        }
+        _ => octets::write_value(out, at, 2, v),
     }
-    sum == 0
 }
 
-// Whether all but the components of a rule's words is as it shall be. The walk over the components tests those. No entry point.
-pub fn is_framed(words: &[u64]) -> bool
-    requires { ⌜ 64 ≤ length (now words) ⌝ }
-    ensures { λ r. ⌜ r ≡ framed (now (words .entry)) ⌝ }
+fn put_ipv4(len: u8, address: u32, out: &mut [u8], at: usize)
+    requires { ⌜ (len ≤ 32) × (at + 1 + octetsOf len ≤ length (now out)) ⌝ }
+    ensures { λ _. ⌜ now (out .exit) ≡ sets (now (out .entry)) at (len ∷ frontOctets 32 len address) ⌝ }
 {
-    let count = words[52] as usize;
-    if 13 < count {
-        return false;
+    out[at] = len;
+    let from = at + 1;
+    put_high(out, from, prefixes::octets_of(len), address as u64);
+}
+
+fn put_other(writing: Reading, prefix: NetworkPrefix, out: &mut [u8], at: usize)
+    requires taken { ⌜ prefixTaken writing prefix ≡ true ⌝ }
+    requires room { ⌜ at + length (prefixOctets writing prefix) ≤ length (now out) ⌝ }
+    ensures { λ _. ⌜ now (out .exit) ≡ sets (now (out .entry)) at (prefixOctets writing prefix) ⌝ }
+{
+    match writing {
+        Reading::Plain => prefixwriting::put_plain(prefix, out, at),
+        Reading::Ipv4 => prefixwriting::put_standard(prefix, out, at),
+        Reading::Ipv6 => prefixwriting::put_standard(prefix, out, at),
     }
-    if 255 < words[53] {
-        return false;
+}
+
+fn put_prefix(writing: Reading, prefix: NetworkPrefix, out: &mut [u8], at: usize)
+    requires taken { ⌜ prefixTaken writing prefix ≡ true ⌝ }
+    requires room { ⌜ at + length (prefixOctets writing prefix) ≤ length (now out) ⌝ }
+    ensures { λ _. ⌜ now (out .exit) ≡ sets (now (out .entry)) at (prefixOctets writing prefix) ⌝ }
+{
+    match prefix {
+        NetworkPrefix::Ipv4 { length, address } => put_ipv4(length, address, out, at),
+        _ => put_other(writing, prefix, out, at),
     }
-    if !all_zero(words, 4 * count, 52) {
-        return false;
+}
+
+// A list that lies within the lent lists, and the place after it.
+fn put_operators(
+    tag: u8,
+    values: &[u64],
+    octets: &[u8],
+    first: usize,
+    start: usize,
+    count: usize,
+    out: &mut [u8],
+    at: usize,
+) -> usize
+    requires taken { ⌜ insideOf (lent (now values) (now octets) first) start count ≡ true ⌝ }
+    requires room { ⌜ at + sizeIn (now octets) (first + start) count ≤ length (now out) ⌝ }
+    ensures next { λ r. ⌜ r ≡ at + sizeIn (now (octets .entry)) (first + start) count ⌝ }
+    ensures octets { λ _. ⌜ now (out .exit) ≡ sets (now (out .entry)) at (listOctets (kindOf tag) (opsOf (lent (now (values .entry)) (now (octets .entry)) first) start count)) ⌝ }
+{
+    if count == 0 {
+        return at;
     }
-    all_zero(words, 55, 64)
+    let list = operators::kind_of(tag);
+    listwriting::put_list(list, values, octets, first + start, count, out, at)
+}
+
+// A piece that was weighed, and the place after it.
+fn put_piece(
+    writing: Reading,
+    values: &[u64],
+    octets: &[u8],
+    first: usize,
+    piece: Piece,
+    out: &mut [u8],
+    at: usize,
+) -> usize
+    requires taken { ⌜ pieceTaken writing (lent (now values) (now octets) first) piece ≡ true ⌝ }
+    requires room { ⌜ at + length (pieceOctets writing (lent (now values) (now octets) first) piece) ≤ length (now out) ⌝ }
+    ensures next { λ r. ⌜ r ≡ at + length (pieceOctets writing (lent (now (values .entry)) (now (octets .entry)) first) piece) ⌝ }
+    ensures octets { λ _. ⌜ now (out .exit) ≡ sets (now (out .entry)) at (pieceOctets writing (lent (now (values .entry)) (now (octets .entry)) first) piece) ⌝ }
+{
+    match piece {
+        Piece::Prefix { tag, prefix } => {
+            out[at] = tag;
+            let from = at + 1;
+            put_prefix(writing, prefix, out, from);
+            from + measuring::prefix_size(writing, prefix)
+        }
+        Piece::Operators { tag, start, count } => {
+            out[at] = tag;
+            let from = at + 1;
+            put_operators(tag, values, octets, first, start, count, out, from)
+        }
+        Piece::NoRecord => at,
+    }
+}
+
+// The second walk, over components that were measured, where there is room.
+fn put_body(
+    writing: Reading,
+    words: &[u64],
+    count: usize,
+    first: usize,
+    values: &[u64],
+    octets: &[u8],
+    out: &mut [u8],
+    at: usize,
+)
+    requires words { ⌜ 4 * count ≤ length (now words) ⌝ }
+    requires taken { ⌜ allTaken writing (lent (now values) (now octets) first) (piecesFrom count (now words) 0) ≡ true ⌝ }
+    requires room { ⌜ at + length (bodyOctets writing (lent (now values) (now octets) first) (piecesFrom count (now words) 0)) ≤ length (now out) ⌝ }
+    ensures { λ _. ⌜ now (out .exit) ≡ sets (now (out .entry)) at (bodyOctets writing (lent (now (values .entry)) (now (octets .entry)) first) (piecesFrom count (now (words .entry)) 0)) ⌝ }
+{
+    let mut p = at;
+    let mut i = 0;
+    while i < count {
+        let piece = stored::piece_at(words, 4 * i);
+        p = put_piece(writing, values, octets, first, piece, out, p);
+        i += 1;
+    }
+}
+
+// The rule at the front of the words, measured: how many octets its body takes, or BadRecord, or ValueTooLarge. Nothing is written.
+pub fn measure(writing: Reading, words: &[u64], values: &[u64], octets: &[u8]) -> Measured
+    ensures { λ r. ⌜ toldMeasured r ≡ counted (bodyFrom writing (now (words .entry)) (now (values .entry)) (now (octets .entry))) ⌝ }
+{
+    if words.len() < 64 {
+        return Measured::Refused(Fault {
+            error: FlowSpecError::BadRecord,
+        });
+    }
+    if !stored::is_framed(words, 0) {
+        return Measured::Refused(Fault {
+            error: FlowSpecError::BadRecord,
+        });
+    }
+    let count = stored::count_at(words, 0);
+    let first = stored::first_at(words, 0);
+    measuring::measure_body(writing, words, count, first, values, octets)
 }
 
 // How many octets the length of a body takes.
@@ -66,41 +191,41 @@ fn head(body: usize) -> usize
     2
 }
 
-// A rule of so many components, all but the components tested.
-fn write_body(
+// How many octets a body of so many takes, with its length. No entry point.
+pub fn whole(body: usize) -> usize
+    requires { ⌜ body ≤ 4095 ⌝ }
+    ensures { λ r. ⌜ r ≡ length (lengthOctets body) + body ⌝ }
+{
+    head(body) + body
+}
+
+// A rule that was measured, where there is room: its length and its body, at the front of `out`. A caller that has written before lends the
+// tail of its output on. No entry point.
+pub fn put(
     writing: Reading,
     words: &[u64],
-    count: usize,
-    first: usize,
     values: &[u64],
     octets: &[u8],
+    body: usize,
     out: &mut [u8],
-) -> Written
-    requires { ⌜ (count ≤ 13) × (4 * count ≤ length (now words)) ⌝ }
-    ensures told { λ r. ⌜ toldWritten r ≡ counted (writtenBody writing (now (words .entry)) count first (now (values .entry)) (now (octets .entry)) (length (now (out .entry)))) ⌝ }
-    ensures octets { λ r. ⌜ now (out .exit) ≡ sets (now (out .entry)) 0 (octetsIn (writtenBody writing (now (words .entry)) count first (now (values .entry)) (now (octets .entry)) (length (now (out .entry))))) ⌝ }
+)
+    requires measured { ⌜ counted (bodyFrom writing (now words) (now values) (now octets)) ≡ accepts body ⌝ }
+    requires room { ⌜ length (lengthOctets body) + body ≤ length (now out) ⌝ }
+    ensures { λ _. ⌜ now (out .exit) ≡ sets (now (out .entry)) 0 (nlriOctets (octetsIn (bodyFrom writing (now (words .entry)) (now (values .entry)) (now (octets .entry))))) ⌝ }
 {
-    let m = measuring::measure(writing, words, count, first, values, octets);
-    let Measured::Body(body) = m else {
-        return Written::Refused(Fault {
-            error: FlowSpecError::BadRecord,
-        });
-    };
-    if 4095 < body {
-        return Written::Refused(Fault {
-            error: FlowSpecError::ValueTooLarge(body),
-        });
-    }
-    let at = head(body);
-    let whole = at + body;
-    if out.len() < whole {
-        return Written::Refused(Fault {
-            error: FlowSpecError::NoRoom(whole),
-        });
-    }
     octets::encode_length(body, out);
-    bodywriting::put_body(writing, words, count, first, values, octets, out, at);
-    Written::Octets(whole)
+    let count = stored::count_at(words, 0);
+    let first = stored::first_at(words, 0);
+    put_body(
+        writing,
+        words,
+        count,
+        first,
+        values,
+        octets,
+        out,
+        head(body),
+    );
 }
 
 // The rule at the front of the words, by a writing.
@@ -114,19 +239,20 @@ pub fn write_from(
     ensures told { λ r. ⌜ toldWritten r ≡ counted (writtenFrom writing (now (words .entry)) (now (values .entry)) (now (octets .entry)) (length (now (out .entry)))) ⌝ }
     ensures octets { λ r. ⌜ now (out .exit) ≡ sets (now (out .entry)) 0 (octetsIn (writtenFrom writing (now (words .entry)) (now (values .entry)) (now (octets .entry)) (length (now (out .entry))))) ⌝ }
 {
-    if words.len() < 64 {
-        return Written::Refused(Fault {
-            error: FlowSpecError::BadRecord,
-        });
+    let m = measure(writing, words, values, octets);
+    match m {
+        Measured::Body(body) => {
+            let size = whole(body);
+            if out.len() < size {
+                return Written::Refused(Fault {
+                    error: FlowSpecError::NoRoom(size),
+                });
+            }
+            put(writing, words, values, octets, body, out);
+            Written::Octets(size)
+        }
+        Measured::Refused(fault) => Written::Refused(fault),
     }
-    if !is_framed(words) {
-        return Written::Refused(Fault {
-            error: FlowSpecError::BadRecord,
-        });
-    }
-    let count = words[52] as usize;
-    let first = words[54] as usize;
-    write_body(writing, words, count, first, values, octets, out)
 }
 
 // The standard writing in a family, the one that the call names: the family that the rule itself was stored with is not looked at.
@@ -134,32 +260,9 @@ pub fn write(family: u8, words: &[u64], values: &[u64], octets: &[u8], out: &mut
     ensures told { λ r. ⌜ toldWritten r ≡ counted (writtenIn family (now (words .entry)) (now (values .entry)) (now (octets .entry)) (length (now (out .entry)))) ⌝ }
     ensures octets { λ r. ⌜ now (out .exit) ≡ sets (now (out .entry)) 0 (octetsIn (writtenIn family (now (words .entry)) (now (values .entry)) (now (octets .entry)) (length (now (out .entry))))) ⌝ }
 {
-    match family {
-        4 => write_from(Reading::Ipv4, words, values, octets, out),
-        6 => write_from(Reading::Ipv6, words, values, octets, out),
-        _ => Written::Refused(Fault {
-            error: FlowSpecError::BadFamily(family),
-        }),
-    }
-}
-
-// The plain writing of a rule by value. It goes through words, off the path that lent rules take.
-pub fn encode_flowspec_nlri(
-    nlri: FlowSpecNlri,
-    values: &[u64],
-    octets: &[u8],
-    out: &mut [u8],
-) -> Written
-    ensures told { λ r. ⌜ toldWritten r ≡ counted (writtenNlri nlri (now (values .entry)) (now (octets .entry)) (length (now (out .entry)))) ⌝ }
-    ensures octets { λ r. ⌜ now (out .exit) ≡ sets (now (out .entry)) 0 (octetsIn (writtenNlri nlri (now (values .entry)) (now (octets .entry)) (length (now (out .entry))))) ⌝ }
-{
-    let mut words = [0u64; 64];
-    let stored = stored::put_rule(&mut words, 0, nlri);
-    match stored {
-        Stored::Done => {
-            fitting::fit_rule(nlri);
-            write_from(Reading::Plain, &words, values, octets, out)
-        }
-        Stored::Refused(fault) => Written::Refused(fault),
+    let standard = choices::reading_of(family);
+    match standard {
+        Standard::Is(writing) => write_from(writing, words, values, octets, out),
+        Standard::Refused(fault) => Written::Refused(fault),
     }
 }

@@ -1,8 +1,9 @@
--- `listwriting::joined` meets its contract. The invariant: the values so far are at most the bits so far.
-use Prim.Native.Nat.{ℕ, _-_, _≤_}
+-- `listwriting::joined` meets its contract. The invariant: it holds of the values so far.
+use Prim.Native.Nat.{ℕ, _+_, _-_, _≤_}
+use mathlib.Core.Path.{_≡_}
 use native.Mathlib.Omega.{arith}
-use Rattle.listwriting.specs.Runs.{Within}
-use Rattle.listwriting.proofs.Quicks.{within-more}
+use Rattle.listwriting.specs.Runs.{Joined}
+use Rattle.listwriting.proofs.Joins.{joined-none, joined-more}
 use borrow.Author.Needs.{needs}
 use Rattle.listwriting.proofs.joined.Statement.{statement}
 use Rattle.listwriting.proofs.joined.Tie as tie
@@ -10,13 +11,16 @@ use Rattle.listwriting.proofs.joined.Reads as reads
 use Rattle.listwriting.proofs.joined.Lts as lts
 
 abbrev Inv-loop : tie.InvT-loop
-Inv-loop values from to sum₀ q₀ sum q = Within values sum from q
+Inv-loop values from sum₀ k₀ sum k = (k ≤ 16) × Joined values from (from + k) sum
 
 abbrev μ-loop : tie.MeasureT-loop
-μ-loop values from to sum₀ q₀ sum q = to - q
+μ-loop values from sum₀ k₀ sum k = 16 - k
 
 loop-holds : tie.Need-loop-holds Inv-loop μ-loop
-loop-holds c i f t = absurd (omega arith)
+loop-holds c = (omega arith, joined-none _ _)
+
+add-sum : tie.Need-add-sum Inv-loop μ-loop
+add-sum c = search needs
 
 mul-sum : tie.Need-mul-sum Inv-loop μ-loop
 mul-sum c = search needs
@@ -24,20 +28,22 @@ mul-sum c = search needs
 shared-slice-read-sum : tie.Need-shared-slice-read-sum Inv-loop μ-loop
 shared-slice-read-sum c = search needs
 
-add-q : tie.Need-add-q Inv-loop μ-loop
-add-q c = search needs
+add-k : tie.Need-add-k Inv-loop μ-loop
+add-k c = search needs
 
 loop-less : tie.Need-loop-less Inv-loop μ-loop
 loop-less c = search needs
 
 loop-again : tie.Need-loop-again Inv-loop μ-loop
 loop-again c =
-    let o = c .before .before in
-    let a = o .before .args in
-    within-more (a .values .now) (o .loop .sum) (a .from) (o .loop .q) (o .loop .inv)
+    let l = c .before .before in
+    (omega arith, joined-more _ _ _ _ (l .loop .inv .1))
 
 returns : tie.Need-returns Inv-loop μ-loop
-returns c i f t = c .before .loop .inv i f (omega arith)
+returns c =
+    let l = c .before .loop in
+    let e : l .k ≡ 16 = omega arith in
+    rw e at (l .inv .1)
 
 pub joined-spec : {M : Type 1} → statement M
 joined-spec =
@@ -46,9 +52,10 @@ joined-spec =
     Inv-loop
     μ-loop
     loop-holds
+    add-sum
     mul-sum
     shared-slice-read-sum
-    add-q
+    add-k
     loop-less
     loop-again
     returns)

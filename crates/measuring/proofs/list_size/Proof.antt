@@ -1,38 +1,60 @@
--- `measuring::list_size` meets its contract: a list that is not empty lies within the lent lists.
-use Prim.Native.Nat.{_+_}
+-- `measuring::list_size` meets its contract, by the writing.
 use mathlib.Core.Path.{sym, ap, _∙_}
-use native.Mathlib.Omega.{arith}
-use Rattle.operators.specs.Ops.{opsIn}
-use Rattle.listwriting.specs.Lists.{sizeIn, takes}
+use Rattle.choices.specs.declared.Reading.{Reading}
+use Rattle.listwriting.specs.declared.ListSize.the-variants.{Octets}
 use Rattle.measuring.specs.Bodies.{lent}
-use Rattle.measuring.proofs.Insides.{inside-both}
+use Rattle.measuring.specs.Weights.{listSize}
 use borrow.Author.Needs.{needs}
 use Rattle.measuring.proofs.list_size.Statement.{statement}
 use Rattle.measuring.proofs.list_size.Tie as tie
 use Rattle.measuring.proofs.list_size.Reads as reads
 use Rattle.measuring.proofs.list_size.Lts as lts
-use Rattle.listwriting.proofs.size.Reads as size-reads
+use Rattle.measuring.proofs.plain_size.Reads as plain-size-reads
+use Rattle.measuring.proofs.standard_size.Reads as standard-size-reads
+
+enum-told : tie.Need-enum-told
+enum-told c = search needs
+
+plain-size-requires : tie.Need-plain-size-requires
+plain-size-requires c κs = search needs
+
+enum-told-2 : tie.Need-enum-told-2
+enum-told-2 c = search needs
+
+standard-size-requires : tie.Need-standard-size-requires
+standard-size-requires c κs = search needs
+
+enum-told-3 : tie.Need-enum-told-3
+enum-told-3 c = search needs
+
+standard-size-requires-2 : tie.Need-standard-size-requires-2
+standard-size-requires-2 c κs = search needs
 
 returns : tie.Need-returns
-unfolding sizeIn
-returns c = rw (c .if1 .taken)
-
-add-size : tie.Need-add-size
-add-size c =
-    let s = c .before .before .before in
-    let a = s .args in
-    let b = inside-both (lent (a .values .now) (a .octets .now) (a .first)) (a .start) (a .count) (c .if1 .left) (s .pre .0) in
-    omega (arith, b .0)
-
-size-requires : tie.Need-size-requires
-size-requires c κs =
-    let s = c .before .before .before in
-    let a = s .args in
-    let b = inside-both (lent (a .values .now) (a .octets .now) (a .first)) (a .start) (a .count) (c .if1 .left) (s .pre .0) in
-    (omega (arith, b .1), omega (arith, s .pre .1))
+returns c =
+    let a = c .before .before .before .before .before .args in
+    ap Octets (c .plain-size .ensures) ∙ sym (ap (λ (w : Reading). listSize w (lent (a .values .now) (a .octets .now) (a .first)) (a .start) (a .count)) (c .before .enum-told .given .1))
 
 returns-2 : tie.Need-returns-2
-returns-2 c = search needs
+returns-2 c =
+    let a = c .before .before .before .before .before .args in
+    c .standard-size .ensures ∙ sym (ap (λ (w : Reading). listSize w (lent (a .values .now) (a .octets .now) (a .first)) (a .start) (a .count)) (c .before .enum-told2 .given .1))
+
+returns-3 : tie.Need-returns-3
+returns-3 c =
+    let a = c .before .before .before .before .before .args in
+    c .standard-size2 .ensures ∙ sym (ap (λ (w : Reading). listSize w (lent (a .values .now) (a .octets .now) (a .first)) (a .start) (a .count)) (c .before .enum-told3 .given .1))
 
 pub list-size-spec : {M : Type 1} → statement M
-list-size-spec = tie.close (tie.spec returns add-size size-requires returns-2)
+list-size-spec =
+    tie.close
+    (tie.spec
+    enum-told
+    plain-size-requires
+    enum-told-2
+    standard-size-requires
+    enum-told-3
+    standard-size-requires-2
+    returns
+    returns-2
+    returns-3)

@@ -28,10 +28,10 @@ returns : tie.Need-returns
 returns c = search needs
 
 returns-2 : tie.Need-returns-2
-returns-2 c = let a = c .before .before .before .args in c .rises-to .ensures ∙ sym (ap (λ (w : Reading). risesIn w (a .previous) (a .kind)) (c .before .enum-told2 .given .1))
+returns-2 c = let a = c .before .before .before .args in c .rises-to .ensures ∙ sym (ap (λ (w : Reading). risesIn w (a .previous) (a .tag)) (c .before .enum-told2 .given .1))
 
 returns-3 : tie.Need-returns-3
-returns-3 c = let a = c .before .before .before .args in c .rises-to2 .ensures ∙ sym (ap (λ (w : Reading). risesIn w (a .previous) (a .kind)) (c .before .enum-told3 .given .1))
+returns-3 c = let a = c .before .before .before .args in c .rises-to2 .ensures ∙ sym (ap (λ (w : Reading). risesIn w (a .previous) (a .tag)) (c .before .enum-told3 .given .1))
 
 pub rises-spec : {M : Type 1} → statement M
 rises-spec =

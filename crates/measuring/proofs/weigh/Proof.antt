@@ -1,12 +1,7 @@
 -- `measuring::weigh` meets its contract, by the piece.
 use mathlib.Core.Path.{_≡_, sym, ap, _∙_}
-use mathlib.Core.Bool.{false}
-use borrow.Author.Tests.{le-leb}
-use native.Mathlib.Omega.{arith}
-use Rattle.pieces.specs.declared.Piece.{Piece}
-use Rattle.pieces.specs.declared.Piece.the-variants.{NoRecord}
 use Rattle.measuring.specs.Bodies.{lent}
-use Rattle.measuring.specs.Grounds.{weighedOf, fitsAfter, pieceTaken}
+use Rattle.measuring.specs.Weights.{weighedOf}
 use Rattle.measuring.proofs.Weights.{weighed-prefix, weighed-nothing}
 use borrow.Author.Needs.{needs}
 use Rattle.measuring.proofs.weigh.Statement.{statement}

@@ -5,7 +5,8 @@ use mathlib.Core.Bool.{_&&_}
 use native.Mathlib.Omega.{arith}
 use lib.ListN.{length}
 use Rattle.measuring.specs.Bodies.{prefixOctets}
-use Rattle.measuring.specs.Grounds.{prefixTaken, risesIn, weighed}
+use Rattle.measuring.specs.Grounds.{prefixTaken, risesIn}
+use Rattle.measuring.specs.Weights.{weighed}
 use Rattle.measuring.proofs.Weights.{prefix-most}
 use borrow.Author.Needs.{needs}
 use Rattle.measuring.proofs.weigh_prefix.Statement.{statement}
@@ -36,7 +37,7 @@ returns c =
     let a = e .before .before .args in
     let t = sym (e .before .prefix-taken .ensures) ∙ e .if1 .taken in
     let r = sym (c .before .before .rises .ensures) ∙ c .before .if2 .taken in
-    rw (c .prefix-size .ensures) (sym (ap₂ (λ x y. weighed (x && y) (a .kind) (1 + length (prefixOctets (a .writing) (a .prefix))) 0) t r))
+    rw (c .prefix-size .ensures) (sym (ap₂ (λ x y. weighed (x && y) (a .tag) (1 + length (prefixOctets (a .writing) (a .prefix))) 0) t r))
 
 returns-2 : tie.Need-returns-2
 returns-2 c =
@@ -44,13 +45,13 @@ returns-2 c =
     let a = e .before .before .args in
     let t = sym (e .before .prefix-taken .ensures) ∙ e .if1 .taken in
     let r = sym (c .before .rises .ensures) ∙ c .if2 .left in
-    sym (ap₂ (λ x y. weighed (x && y) (a .kind) (1 + length (prefixOctets (a .writing) (a .prefix))) 0) t r)
+    sym (ap₂ (λ x y. weighed (x && y) (a .tag) (1 + length (prefixOctets (a .writing) (a .prefix))) 0) t r)
 
 returns-3 : tie.Need-returns-3
 returns-3 c =
     let a = c .before .before .args in
     let t = sym (c .before .prefix-taken .ensures) ∙ c .if1 .left in
-    sym (ap (λ x. weighed (x && risesIn (a .writing) (a .previous) (a .kind)) (a .kind) (1 + length (prefixOctets (a .writing) (a .prefix))) 0) t)
+    sym (ap (λ x. weighed (x && risesIn (a .writing) (a .previous) (a .tag)) (a .tag) (1 + length (prefixOctets (a .writing) (a .prefix))) 0) t)
 
 pub weigh-prefix-spec : {M : Type 1} → statement M
 weigh-prefix-spec =

@@ -1,53 +1,56 @@
--- `writing::write` meets its contract, by the family.
-use Prim.Native.Nat.{ℕ}
-use mathlib.Core.Path.{_≡_, sym, _∙_}
-use native.Mathlib.Omega.{arith}
+-- `writing::write` meets its contract, by the reading that the family names.
+use mathlib.Core.Path.{_≡_, sym, ap, _∙_}
 use lib.ListN.{length}
-use Rattle.writing.proofs.Frames.{refused, carried, in-four, in-six, in-none}
+use Rattle.choices.specs.Choices.{toldStandard}
+use Rattle.writing.specs.Writings.{bodyIn, inRoom, writtenIn}
+use Rattle.writing.proofs.Ways.{carried, refused, in-standard, not-standard}
 use borrow.Author.Needs.{needs}
 use Rattle.writing.proofs.write.Statement.{statement}
 use Rattle.writing.proofs.write.Tie as tie
 use Rattle.writing.proofs.write.Reads as reads
 use Rattle.writing.proofs.write.Lts as lts
+use Rattle.choices.proofs.reading_of.Reads as reading-of-reads
 use Rattle.writing.proofs.write_from.Reads as write-from-reads
+
+reading-of-requires : tie.Need-reading-of-requires
+reading-of-requires c κs = search needs
+
+enum-known-standard : tie.Need-enum-known-standard
+enum-known-standard c = search needs
 
 write-from-requires : tie.Need-write-from-requires
 write-from-requires c κs = search needs
 
-write-from-requires-2 : tie.Need-write-from-requires-2
-write-from-requires-2 c κs = search needs
+enum-known-standard-2 : tie.Need-enum-known-standard-2
+enum-known-standard-2 c = search needs
 
 same-length : tie.Need-same-length
 same-length c = search needs
 
 returns : tie.Need-returns
 returns c =
-    let m = c .before .before .before .before in
-    let a = m .before .before .before .before .before .args in
-    carried (a .out .now) (in-four (a .family) (a .words .now) (a .values .now) (a .octets .now) (length (a .out .now)) (m .match .keys1)) (c .before .before .write-from .ensures)
-
-same-length-2 : tie.Need-same-length-2
-same-length-2 c = search needs
+    let p = c .before .before in
+    let k = p .before .before .before in
+    let g = k .before .before in
+    let a = g .before .before .before .before .before .args in
+    carried (a .out .now) (in-standard (a .family) (a .words .now) (a .values .now) (a .octets .now) _ (length (a .out .now)) (sym (ap toldStandard (k .standard .given .1)) ∙ g .reading-of .ensures)) (p .write-from .ensures)
 
 returns-2 : tie.Need-returns-2
+unfolding writtenIn
 returns-2 c =
-    let m = c .before .before .before .before in
-    let a = m .before .before .before .before .before .args in
-    carried (a .out .now) (in-six (a .family) (a .words .now) (a .values .now) (a .octets .now) (length (a .out .now)) (m .match .keys2)) (c .before .before .write-from2 .ensures)
-
-returns-3 : tie.Need-returns-3
-returns-3 c =
-    let a = c .before .before .before .before .before .args in
-    refused _ (a .out .now) (in-none (a .family) (a .words .now) (a .values .now) (a .octets .now) (length (a .out .now)) (c .match .rest .0 .1) (c .match .rest .1))
+    let k = c .before in
+    let g = k .before .before in
+    let a = g .before .before .before .before .before .args in
+    refused (bodyIn (a .family) (a .words .now) (a .values .now) (a .octets .now)) (a .out .now) (inRoom (length (a .out .now))) _ (not-standard (a .family) (a .words .now) (a .values .now) (a .octets .now) _ (sym (ap toldStandard (k .standard2 .given .1)) ∙ g .reading-of .ensures))
 
 pub write-spec : {M : Type 1} → statement M
 write-spec =
     tie.close
     (tie.spec
+    reading-of-requires
+    enum-known-standard
     write-from-requires
-    write-from-requires-2
+    enum-known-standard-2
     same-length
     returns
-    same-length-2
-    returns-2
-    returns-3)
+    returns-2)

@@ -1,66 +1,84 @@
--- `writing::write_from` meets its contract: the frame is tested first, the components by the walk.
-use Prim.Native.Nat.{ℕ}
-use mathlib.Core.Path.{_≡_, sym, _∙_}
+-- `writing::write_from` meets its contract: measure, room, put.
+use mathlib.Core.Path.{_≡_, sym, ap, _∙_}
 use native.Mathlib.Omega.{arith}
 use lib.ListN.{length}
-use borrow.Author.Tests.{not-true, not-false}
-use Rattle.writing.specs.Writings.{writtenFrom}
-use Rattle.writing.proofs.Frames.{refused, carried, few-words, no-frame, by-parts, framed-count}
+use Rattle.measuring.specs.Grounds.{toldMeasured}
+use Rattle.writing.specs.Writings.{bodyFrom, inRoom, writtenFrom}
+use Rattle.writing.proofs.Ways.{measured-most, no-room, in-room, refused}
 use borrow.Author.Needs.{needs}
 use Rattle.writing.proofs.write_from.Statement.{statement}
 use Rattle.writing.proofs.write_from.Tie as tie
 use Rattle.writing.proofs.write_from.Reads as reads
 use Rattle.writing.proofs.write_from.Lts as lts
-use Rattle.writing.proofs.is_framed.Reads as is-framed-reads
-use Rattle.writing.proofs.write_body.Reads as write-body-reads
+use Rattle.writing.proofs.measure.Reads as measure-reads
+use Rattle.writing.proofs.put.Reads as put-reads
+use Rattle.writing.proofs.whole.Reads as whole-reads
+
+measure-requires : tie.Need-measure-requires
+measure-requires c κs = search needs
+
+enum-known-m : tie.Need-enum-known-m
+enum-known-m c = search needs
+
+whole-requires : tie.Need-whole-requires
+whole-requires c κs =
+    let k = c .before in
+    let g = k .before .before in
+    let a = g .before .before .before .before .before .args in
+    measured-most (a .writing) (a .words .now) (a .values .now) (a .octets .now) (k .m .given .0 .0) (sym (ap toldMeasured (k .m .given .1)) ∙ g .measure .ensures)
 
 returns : tie.Need-returns
+unfolding writtenFrom
 returns c =
-    let a = c .before .before .before .before .before .args in
-    refused _ (a .out .now) (few-words (a .words .now) (a .writing) (a .values .now) (a .octets .now) (length (a .out .now)) (c .if1 .taken))
+    let k = c .before .before .before in
+    let g = k .before .before in
+    let a = g .before .before .before .before .before .args in
+    let h = no-room (bodyFrom (a .writing) (a .words .now) (a .values .now) (a .octets .now)) (a .out .now) (k .m .given .0 .0) (sym (ap toldMeasured (k .m .given .1)) ∙ g .measure .ensures) _ (c .before .whole .ensures) (c .if1 .taken) in
+    (h .0, h .1)
 
-is-framed-requires : tie.Need-is-framed-requires
-is-framed-requires c κs = search needs
+put-requires : tie.Need-put-requires
+put-requires c κs =
+    let w = c .before .before in
+    let k = w .before .before in
+    let g = k .before .before in
+    (sym (sym (ap toldMeasured (k .m .given .1)) ∙ g .measure .ensures), omega (arith, w .whole .ensures, c .before .if1 .left))
 
-returns-2 : tie.Need-returns-2
-returns-2 c =
-    let e = c .before .before in
-    let a = e .before .before .before .before .before .args in
-    refused _ (a .out .now) (no-frame (a .words .now) (a .writing) (a .values .now) (a .octets .now) (length (a .out .now)) (e .if1 .left) (sym (c .before .is-framed .ensures) ∙ not-true _ (c .if2 .taken)))
-
-shared-slice-read-count : tie.Need-shared-slice-read-count
-shared-slice-read-count c = search needs
-
-shared-slice-read-first : tie.Need-shared-slice-read-first
-shared-slice-read-first c = search needs
-
-write-body-requires : tie.Need-write-body-requires
-write-body-requires c κs =
-    let f = c .before .before .before in
-    let e = f .before .before in
-    let a = e .before .before .before .before .before .args in
-    let n = framed-count (a .words .now) (sym (f .before .is-framed .ensures) ∙ not-false _ (f .if2 .left)) in
-    (n, omega (arith, n, e .if1 .left))
+enum-known-m-2 : tie.Need-enum-known-m-2
+enum-known-m-2 c = search needs
 
 same-length : tie.Need-same-length
 same-length c = search needs
 
+returns-2 : tie.Need-returns-2
+unfolding writtenFrom
+returns-2 c =
+    let p = c .before .before in
+    let i = p .before .before in
+    let w = i .before in
+    let k = w .before .before in
+    let g = k .before .before in
+    let a = g .before .before .before .before .before .args in
+    let h = in-room (bodyFrom (a .writing) (a .words .now) (a .values .now) (a .octets .now)) (a .out .now) (k .m .given .0 .0) (sym (ap toldMeasured (k .m .given .1)) ∙ g .measure .ensures) _ (w .whole .ensures) (i .if1 .left) (p .put .ensures) in
+    (h .0, h .1)
+
 returns-3 : tie.Need-returns-3
+unfolding writtenFrom
 returns-3 c =
-    let f = c .before .before .before .before .before .before in
-    let e = f .before .before in
-    let a = e .before .before .before .before .before .args in
-    carried (a .out .now) (by-parts (a .words .now) (a .writing) (a .values .now) (a .octets .now) (length (a .out .now)) (e .if1 .left) (sym (f .before .is-framed .ensures) ∙ not-false _ (f .if2 .left))) (c .before .before .write-body .ensures)
+    let k = c .before in
+    let g = k .before .before in
+    let a = g .before .before .before .before .before .args in
+    refused (bodyFrom (a .writing) (a .words .now) (a .values .now) (a .octets .now)) (a .out .now) (inRoom (length (a .out .now))) _ (sym (ap toldMeasured (k .m2 .given .1)) ∙ g .measure .ensures)
 
 pub write-from-spec : {M : Type 1} → statement M
 write-from-spec =
     tie.close
     (tie.spec
+    measure-requires
+    enum-known-m
+    whole-requires
     returns
-    is-framed-requires
-    returns-2
-    shared-slice-read-count
-    shared-slice-read-first
-    write-body-requires
+    put-requires
+    enum-known-m-2
     same-length
+    returns-2
     returns-3)

@@ -1,0 +1,93 @@
+-- `listwriting::add_each` meets its contract, which is the invariant: each operator is a link of the chain.
+use Prim.Native.Nat.{ℕ, _+_, _-_, _≤_, _<_}
+use mathlib.Core.Path.{_≡_}
+use native.Mathlib.Omega.{arith}
+use lib.ListN.{getD}
+use Rattle.octets.specs.Widths.{codeIn}
+use Rattle.octets.proofs.Widths.{width-range}
+use Rattle.listwriting.specs.Runs.{sum, Adds}
+use Rattle.listwriting.proofs.Joins.{octets-by, adds-none, adds-chain, adds-one}
+use borrow.Author.Needs.{needs}
+use Rattle.listwriting.proofs.add_each.Statement.{statement}
+use Rattle.listwriting.proofs.add_each.Tie as tie
+use Rattle.listwriting.proofs.add_each.Reads as reads
+use Rattle.listwriting.proofs.add_each.Lts as lts
+
+abbrev Inv-loop : tie.InvT-loop
+Inv-loop values octets from to past takes over₀ marks₀ n₀ q₀ over marks n q = (from ≤ q) × (q ≤ to) × Adds values octets from q (sum over₀ marks₀ n₀) (sum over marks n)
+
+abbrev μ-loop : tie.MeasureT-loop
+μ-loop values octets from to past takes over₀ marks₀ n₀ q₀ over marks n q = to - q
+
+loop-holds : tie.Need-loop-holds Inv-loop μ-loop
+loop-holds c = (omega arith, omega arith, adds-none _ _ _ _)
+
+shared-slice-read-octet : tie.Need-shared-slice-read-octet Inv-loop μ-loop
+shared-slice-read-octet c = search needs
+
+cast-code : tie.Need-cast-code Inv-loop μ-loop
+cast-code c = search needs
+
+mul-over : tie.Need-mul-over Inv-loop μ-loop
+mul-over c = search needs
+
+shared-slice-read-over : tie.Need-shared-slice-read-over Inv-loop μ-loop
+shared-slice-read-over c = search needs
+
+mul-over-2 : tie.Need-mul-over-2 Inv-loop μ-loop
+mul-over-2 c = search needs
+
+array-read-over : tie.Need-array-read-over Inv-loop μ-loop
+array-read-over c = search needs
+
+mul-n : tie.Need-mul-n Inv-loop μ-loop
+mul-n c = search needs
+
+array-read-n : tie.Need-array-read-n Inv-loop μ-loop
+array-read-n c = search needs
+
+add-n : tie.Need-add-n Inv-loop μ-loop
+add-n c =
+    let l = c .before .before .before in
+    let o = getD (l .before .args .octets .now) (l .loop .q) 0 in
+    let k : codeIn o < 4 = omega arith in
+    omega (arith, l .loop .inv .2 .most, octets-by (codeIn o) k, width-range (codeIn o) k .1)
+
+add-q : tie.Need-add-q Inv-loop μ-loop
+add-q c = search needs
+
+loop-less : tie.Need-loop-less Inv-loop μ-loop
+loop-less c = search needs
+
+loop-again : tie.Need-loop-again Inv-loop μ-loop
+loop-again c =
+    let l = c .before .before .before in
+    (omega arith, omega arith, adds-chain _ _ (omega arith) (l .loop .inv .2) (adds-one _ _ (l .loop .q) (c .shared-slice-known2 .given (l .loop .q) .fits) _ _ _))
+
+returns : tie.Need-returns Inv-loop μ-loop
+returns c =
+    let l = c .before .loop in
+    let a = c .before .before .args in
+    let e : l .q ≡ a .to = omega arith in
+    rw e at (l .inv .2)
+
+pub add-each-spec : {M : Type 1} → statement M
+add-each-spec =
+    tie.close
+    (tie.spec
+    Inv-loop
+    μ-loop
+    loop-holds
+    shared-slice-read-octet
+    cast-code
+    mul-over
+    shared-slice-read-over
+    mul-over-2
+    array-read-over
+    mul-n
+    array-read-n
+    add-n
+    add-q
+    loop-less
+    loop-again
+    returns)

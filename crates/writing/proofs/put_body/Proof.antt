@@ -1,0 +1,72 @@
+-- `writing::put_body` meets its contract. `Turns.antt` has the invariant, `Stood`, and what a turn does to it.
+use Prim.Native.Nat.{ℕ, _+_, _-_, _*_}
+use mathlib.Core.Path.{_≡_, refl, sym, ap, _∙_}
+use native.Mathlib.Omega.{arith}
+use Rattle.measuring.specs.Bodies.{lent}
+use Rattle.writing.proofs.Turns.{Stood, stood-first, stood-end, stood-more, next-taken, next-room}
+use borrow.Author.Needs.{needs}
+use Rattle.writing.proofs.put_body.Statement.{statement}
+use Rattle.writing.proofs.put_body.Tie as tie
+use Rattle.writing.proofs.put_body.Reads as reads
+use Rattle.writing.proofs.put_body.Lts as lts
+use Rattle.writing.proofs.put_piece.Reads as put-piece-reads
+use Rattle.stored.proofs.piece_at.Reads as piece-at-reads
+
+abbrev Inv-loop : tie.InvT-loop
+Inv-loop writing words count first values octets out₀ at p₀ i₀ out p i = Stood writing (lent values octets first) words count at out₀ out p i
+
+abbrev μ-loop : tie.MeasureT-loop
+μ-loop writing words count first values octets out₀ at p₀ i₀ out p i = count - i
+
+loop-holds : tie.Need-loop-holds Inv-loop μ-loop
+loop-holds c =
+    let s = c .before .before .before .before in
+    stood-first _ _ _ _ _ _ (s .pre .1 .0)
+
+mul-piece-at : tie.Need-mul-piece-at Inv-loop μ-loop
+mul-piece-at c = omega (arith, c .before .before .before .before .before .before .pre .0)
+
+piece-at-requires : tie.Need-piece-at-requires Inv-loop μ-loop
+piece-at-requires c κs = omega (arith, c .before .before .before .before .before .before .pre .0)
+
+put-piece-requires : tie.Need-put-piece-requires Inv-loop μ-loop
+put-piece-requires c κs =
+    let b = c .before in
+    let o = b .before .before in
+    let s = o .before .before .before .before .before in
+    (next-taken _ _ _ _ _ _ (o .loop .inv) (omega arith) (b .piece-at .ensures), next-room _ _ _ _ _ _ (o .loop .inv) (omega arith) (b .piece-at .ensures) (s .pre .1 .1))
+
+add-i : tie.Need-add-i Inv-loop μ-loop
+add-i c = search needs
+
+loop-less : tie.Need-loop-less Inv-loop μ-loop
+loop-less c = search needs
+
+loop-again : tie.Need-loop-again Inv-loop μ-loop
+loop-again c =
+    let h = c .before .before in
+    let b = h .before .before in
+    let o = b .before .before in
+    stood-more _ _ _ _ _ _ (o .loop .inv) (omega arith) (b .piece-at .ensures) (h .put-piece .ensures .0) (h .put-piece .ensures .1)
+
+same-length : tie.Need-same-length Inv-loop μ-loop
+same-length c = c .before .loop .inv .long
+
+returns : tie.Need-returns Inv-loop μ-loop
+returns c = stood-end _ _ _ _ _ _ (c .before .loop .inv) (omega arith)
+
+pub put-body-spec : {M : Type 1} → statement M
+put-body-spec =
+    tie.close
+    (tie.spec
+    Inv-loop
+    μ-loop
+    loop-holds
+    mul-piece-at
+    piece-at-requires
+    put-piece-requires
+    add-i
+    loop-less
+    loop-again
+    same-length
+    returns)
