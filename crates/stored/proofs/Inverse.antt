@@ -3,10 +3,10 @@
 use Prim.Native.Nat.{ℕ, zero, suc, _+_, _-_, _*_, _/_, _%_, _^_, _≤_, _<_}
 use mathlib.Core.Path.{_≡_, refl, sym, ap, ap₂, _∙_, subst}
 use mathlib.Core.List.{List, [], _∷_, _++_, append-assoc}
-use mathlib.Core.Bool.{Bool, true, false, _&&_, _||_, not}
+use mathlib.Core.Bool.{Bool, true, false, _&&_}
 use native.Mathlib.Nat.{mod-eq-of-lt}
 use native.Mathlib.Omega.{arith}
-use borrow.Author.Tests.{lt-ltb, le-leb, leb-false, eqb-true, eq-eqb}
+use borrow.Author.Tests.{lt-ltb, le-ltb, le-leb, leb-false, eqb-true, eq-eqb}
 use lib.Dec.{ltb, leb, eqb}
 use lib.ListN.{length, getD, take, drop, replicate, length-append, length-drop, length-replicate, take-append-drop}
 use lib.Seq.{sets, sets-eq, length-sets, drop-at, drop-drop, getD-drop, take-add, drop-cons, length-take-le}
@@ -15,13 +15,12 @@ use Rattle.ground.specs.Answers.{Answer, accepts, refuses}
 use Rattle.ground.specs.Picks.{pick}
 use Rattle.rules.specs.declared.NetworkPrefix.{NetworkPrefix}
 use Rattle.rules.specs.declared.NetworkPrefix.the-variants.{Ipv4, Ipv6, Ipv4Offset, Ipv6Offset}
-use Rattle.rules.specs.declared.FlowSpecComponent.{FlowSpecComponent}
-use Rattle.rules.specs.declared.FlowSpecComponent.the-variants.{Nothing, DestinationPrefix, SourcePrefix, IpProtocol, Port, DestinationPort, SourcePort, IcmpType, IcmpCode, TcpFlags, PacketLength, Dscp, Fragment, FlowLabel}
-use Rattle.rules.specs.Components.{typeOf, listOf, countsAs, holdsOne}
 use Rattle.stored.specs.declared.Quad.{Quad}
-use Rattle.stored.specs.declared.Part.the-variants.{Is, NoRecord}
-use Rattle.stored.specs.Stored.{quad, quadOf, quadWords, componentWords, allWords, tailWords, ruleWords, prefixQuad, networkOf, componentOf, sameQuad, quadAt, isComponent, partOf, partAt, inRule, componentsFrom, partsFrom, zerosFrom, StoredRule, storedRule, isRule, storedAt, ruleAt}
-use Rattle.stored.proofs.Words.{is-a-rule, at-good, length-all, length-components}
+use Rattle.stored.specs.declared.Piece.{Piece}
+use Rattle.stored.specs.declared.Piece.the-variants.{Prefix, Operators, NoRecord}
+use Rattle.stored.specs.Pieces.{quad, quadOf, quadWords, pieceWords, prefixQuad, networkOf, named, sameQuad, quadAt, isPiece, pieceOf, pieceAt, isRecord}
+use Rattle.stored.specs.Stored.{Head, head, allWords, tailWords, ruleWords, countAt, familyAt, piecesFrom, recordsFrom, zerosFrom, StoredRule, storedRule, isFramed, isRule, storedAt, ruleAt}
+use Rattle.stored.proofs.Words.{framed, rule-framed, rule-records, at-good, length-all, length-pieces}
 
 -- what every value of these types is: each field fits its width
 abbrev pub FitPrefix : NetworkPrefix → Type 0
@@ -30,25 +29,15 @@ FitPrefix (Ipv6 len h l) = len < 256
 FitPrefix (Ipv4Offset len off a) = (len < 256) × (off < 256) × (a < 2 ^ 32)
 FitPrefix (Ipv6Offset len off h l) = (len < 256) × (off < 256)
 
-abbrev pub Fit : FlowSpecComponent → Type 0
-Fit Nothing = Unit
-Fit (DestinationPrefix p) = FitPrefix p
-Fit (SourcePrefix p) = FitPrefix p
-Fit (IpProtocol s) = Unit
-Fit (Port s) = Unit
-Fit (DestinationPort s) = Unit
-Fit (SourcePort s) = Unit
-Fit (IcmpType s) = Unit
-Fit (IcmpCode s) = Unit
-Fit (TcpFlags s) = Unit
-Fit (PacketLength s) = Unit
-Fit (Dscp s) = Unit
-Fit (Fragment s) = Unit
-Fit (FlowLabel s) = Unit
+-- a piece of a rule: a type from 1 to 13, as its content has it, and a prefix that fits
+abbrev pub Fit : Piece → Type 0
+Fit (Prefix t p) = (1 ≤ t) × (t ≤ 2) × FitPrefix p
+Fit (Operators t start count) = (3 ≤ t) × (t ≤ 13)
+Fit NoRecord = ⊥
 
-abbrev pub FitAll : List FlowSpecComponent → Type 0
+abbrev pub FitAll : List Piece → Type 0
 FitAll [] = Unit
-FitAll (c ∷ cs) = Fit c × FitAll cs
+FitAll (p ∷ ps) = Fit p × FitAll ps
 
 -- one prefix of a form, under any of the two types
 first-octet : (len off : ℕ) → len < 256 → (len + 256 * off) % 256 ≡ len
@@ -57,8 +46,8 @@ first-octet len off f = omega arith
 second-octet : (len off : ℕ) → len < 256 → off < 256 → (len + 256 * off) / 256 % 256 ≡ off
 second-octet len off f g = omega arith
 
-abbrev named : ℕ → Quad → NetworkPrefix
-named form q = networkOf form (q .a) (q .b) (q .c)
+abbrev network : ℕ → Quad → NetworkPrefix
+network form q = networkOf form (q .a) (q .b) (q .c)
 
 abbrev formOf : NetworkPrefix → ℕ
 formOf (Ipv4 len a) = 0
@@ -66,91 +55,79 @@ formOf (Ipv6 len h l) = 1
 formOf (Ipv4Offset len off a) = 2
 formOf (Ipv6Offset len off h l) = 3
 
-network-back : (t : ℕ) (p : NetworkPrefix) → FitPrefix p → named (formOf p) (prefixQuad t p) ≡ p
+network-back : (t : ℕ) (p : NetworkPrefix) → FitPrefix p → network (formOf p) (prefixQuad t p) ≡ p
 network-back t (Ipv4 len a) (f, g) = ap₂ Ipv4 (mod-eq-of-lt f) (mod-eq-of-lt g)
 network-back t (Ipv6 len h l) f = ap (λ (x : ℕ). Ipv6 x h l) (mod-eq-of-lt f)
 network-back t (Ipv4Offset len off a) (f, g, h) =
     ap₂ (λ (x y : ℕ). Ipv4Offset x y (a % 2 ^ 32)) (first-octet len off f) (second-octet len off f g) ∙ ap (λ (x : ℕ). Ipv4Offset len off x) (mod-eq-of-lt h)
 network-back t (Ipv6Offset len off h l) (f, g) = ap₂ (λ (x y : ℕ). Ipv6Offset x y h l) (first-octet len off f) (second-octet len off f g)
 
-destination-back : (p : NetworkPrefix) → componentOf (prefixQuad 1 p) ≡ DestinationPrefix (named (formOf p) (prefixQuad 1 p))
-unfolding componentOf
-destination-back (Ipv4 len a) = refl
-destination-back (Ipv6 len h l) = refl
-destination-back (Ipv4Offset len off a) = refl
-destination-back (Ipv6Offset len off h l) = refl
+form-mark : (t : ℕ) → t ≤ 2 → (p : NetworkPrefix) → (prefixQuad t p .mark % 16 ≡ t) × (prefixQuad t p .mark / 16 ≡ formOf p)
+form-mark t h (Ipv4 len a) = (omega arith, omega arith)
+form-mark t h (Ipv6 len g l) = (omega arith, omega arith)
+form-mark t h (Ipv4Offset len off a) = (omega arith, omega arith)
+form-mark t h (Ipv6Offset len off g l) = (omega arith, omega arith)
 
-source-back : (p : NetworkPrefix) → componentOf (prefixQuad 2 p) ≡ SourcePrefix (named (formOf p) (prefixQuad 2 p))
-unfolding componentOf
-source-back (Ipv4 len a) = refl
-source-back (Ipv6 len h l) = refl
-source-back (Ipv4Offset len off a) = refl
-source-back (Ipv6Offset len off h l) = refl
-
-pub component-back : (c : FlowSpecComponent) → Fit c → componentOf (quadOf c) ≡ c
-unfolding componentOf listOf
-component-back Nothing u = refl
-component-back (DestinationPrefix p) f = destination-back p ∙ ap DestinationPrefix (network-back 1 p f)
-component-back (SourcePrefix p) f = source-back p ∙ ap SourcePrefix (network-back 2 p f)
-component-back (IpProtocol s) u = refl
-component-back (Port s) u = refl
-component-back (DestinationPort s) u = refl
-component-back (SourcePort s) u = refl
-component-back (IcmpType s) u = refl
-component-back (IcmpCode s) u = refl
-component-back (TcpFlags s) u = refl
-component-back (PacketLength s) u = refl
-component-back (Dscp s) u = refl
-component-back (Fragment s) u = refl
-component-back (FlowLabel s) u = refl
+pub piece-back : (p : Piece) → Fit p → named (quadOf p) ≡ p
+unfolding named
+piece-back (Prefix t p) (l, h, f) =
+    let m = form-mark t h p in
+    let q = prefixQuad t p in
+    rw (lt-ltb (q .mark % 16) 3 (omega (arith, m .0)))
+    (ap₂ (λ (x y : ℕ). Prefix x (networkOf y (q .a) (q .b) (q .c))) (m .0) (m .1) ∙ ap (λ x. Prefix t x) (network-back t p f))
+piece-back (Operators t start count) (l, h) =
+    let e : t % 16 ≡ t = omega arith in
+    rw (le-ltb (t % 16) 3 (omega arith)) (ap (λ (x : ℕ). Operators x start count) e)
+piece-back NoRecord f = absurd f
 
 same-self : (q : Quad) → sameQuad q q ≡ true
-same-self q = rw (eq-eqb (q .kind) (q .kind) refl, eq-eqb (q .a) (q .a) refl, eq-eqb (q .b) (q .b) refl, eq-eqb (q .c) (q .c) refl)
+same-self q = rw (eq-eqb (q .mark) (q .mark) refl, eq-eqb (q .a) (q .a) refl, eq-eqb (q .b) (q .b) refl, eq-eqb (q .c) (q .c) refl)
 
 same-eq : (x y : Quad) → sameQuad x y ≡ true → x ≡ y
 same-eq x y e =
-    let p = both (eqb (x .kind) (y .kind)) _ e in
+    let p = both (eqb (x .mark) (y .mark)) _ e in
     let q = both (eqb (x .a) (y .a)) _ (p .1) in
     let r = both (eqb (x .b) (y .b)) (eqb (x .c) (y .c)) (q .1) in
     ap₂ (λ (k a : ℕ). quad k a (x .b) (x .c)) (eqb-true _ _ (p .0)) (eqb-true _ _ (q .0))
-    ∙ ap₂ (λ (b c : ℕ). quad (y .kind) (y .a) b c) (eqb-true _ _ (r .0)) (eqb-true _ _ (r .1))
+    ∙ ap₂ (λ (b c : ℕ). quad (y .mark) (y .a) b c) (eqb-true _ _ (r .0)) (eqb-true _ _ (r .1))
 
-is-one : (c : FlowSpecComponent) → Fit c → isComponent (quadOf c) ≡ true
-unfolding isComponent
-is-one c f = ap (λ x. sameQuad (quadOf x) (quadOf c)) (component-back c f) ∙ same-self (quadOf c)
+type-range : (p : Piece) → Fit p → (1 ≤ quadOf p .mark % 16) × (quadOf p .mark % 16 ≤ 13)
+type-range (Prefix t p) (l, h, f) = let m = form-mark t h p .0 in (omega (arith, m), omega (arith, m))
+type-range (Operators t start count) (l, h) = (omega arith, omega arith)
+type-range NoRecord f = absurd f
 
-words-back : (q : Quad) → isComponent q ≡ true → quadOf (componentOf q) ≡ q
-unfolding isComponent
-words-back q e = same-eq (quadOf (componentOf q)) q e
+-- the words of a piece are that piece
+pub words-piece : (p : Piece) → Fit p → pieceOf (quadOf p) ≡ p
+unfolding pieceOf isPiece
+words-piece p f =
+    let r = type-range p f in
+    let q = quadOf p in
+    let s : sameQuad (quadOf (named q)) q ≡ true = ap (λ x. sameQuad (quadOf x) q) (piece-back p f) ∙ same-self q in
+    rw (lt-ltb 0 (q .mark % 16) (omega (arith, r .0)), le-leb (q .mark % 16) 13 (r .1), s) (piece-back p f)
 
--- a component of a rule, by its type and by what it counts as
-some-type : (c : FlowSpecComponent) → eqb (countsAs c) 1 ≡ false → not (eqb (typeOf c) 0) ≡ true
-some-type Nothing e = sym e
-some-type (DestinationPrefix p) e = refl
-some-type (SourcePrefix p) e = refl
-some-type (IpProtocol s) e = refl
-some-type (Port s) e = refl
-some-type (DestinationPort s) e = refl
-some-type (SourcePort s) e = refl
-some-type (IcmpType s) e = refl
-some-type (IcmpCode s) e = refl
-some-type (TcpFlags s) e = refl
-some-type (PacketLength s) e = refl
-some-type (Dscp s) e = refl
-some-type (Fragment s) e = refl
-some-type (FlowLabel s) e = refl
+-- and what is a piece has the piece's words
+by-both : (a b c : Bool) (p : Piece) → isRecord (pick (a && (b && c)) p NoRecord) ≡ true → c ≡ true
+by-both true true true p e = refl
+by-both true true false p e = e
+by-both true false c p e = let z : _≡_ {A = Bool} false true = e in let y : _≡_ {A = ℕ} 0 1 = cc in absurd (omega arith)
+by-both false b c p e = let z : _≡_ {A = Bool} false true = e in let y : _≡_ {A = ℕ} 0 1 = cc in absurd (omega arith)
 
-neither : (a b : Bool) → (a || b) ≡ false → (a ≡ false) × (b ≡ false)
-neither true b e = let z : _≡_ {A = ℕ} 0 1 = cc in absurd (omega arith)
-neither false b e = (refl, e)
+picked : (a b c : Bool) (p : Piece) → isRecord (pick (a && (b && c)) p NoRecord) ≡ true → pick (a && (b && c)) p NoRecord ≡ p
+picked true true true p e = refl
+picked true true false p e = let y : _≡_ {A = ℕ} 0 1 = cc in absurd (omega arith)
+picked true false c p e = let y : _≡_ {A = ℕ} 0 1 = cc in absurd (omega arith)
+picked false b c p e = let y : _≡_ {A = ℕ} 0 1 = cc in absurd (omega arith)
 
-in-rule : (b : Bool) (c : FlowSpecComponent) → inRule (pick b (Is c) NoRecord) ≡ true → b ≡ true
-in-rule true c e = refl
-in-rule false c e = e
+words-back : (q : Quad) → isRecord (pieceOf q) ≡ true → quadOf (pieceOf q) ≡ q
+unfolding pieceOf isPiece
+words-back q e =
+    ap quadOf (picked (ltb 0 (q .mark % 16)) (leb (q .mark % 16) 13) (sameQuad (quadOf (named q)) q) (named q) e)
+    ∙ same-eq (quadOf (named q)) q (by-both (ltb 0 (q .mark % 16)) (leb (q .mark % 16) 13) (sameQuad (quadOf (named q)) q) (named q) e)
 
-pub part-in-rule : (ws : List ℕ) (at : ℕ) → inRule (partAt ws at) ≡ true → isComponent (quadAt ws at) ≡ true
-unfolding partAt partOf
-part-in-rule ws at e = in-rule (isComponent (quadAt ws at)) (componentOf (quadAt ws at)) e
+fit-record : (p : Piece) → Fit p → isRecord p ≡ true
+fit-record (Prefix t p) f = refl
+fit-record (Operators t start count) f = refl
+fit-record NoRecord f = absurd f
 
 -- what stands at a place, from what the list is from there on
 module _ (ws : List ℕ) (at : ℕ) (xs : List ℕ) (e : drop at ws ≡ xs) where
@@ -164,22 +141,20 @@ quad-here : (ws : List ℕ) (at : ℕ) (q : Quad) (more : List ℕ) → drop at 
 quad-here ws at q more e =
     let z : at ≡ at + 0 = omega arith in
     let g = word-here ws at (quadWords q ++ more) e in
-    ap₂ (λ (x y : ℕ). quad x y (getD ws (at + 2) 0) (getD ws (at + 3) 0)) (ap (λ (j : ℕ). getD ws j 0) z ∙ g 0) (g 1) ∙ ap₂ (λ (x y : ℕ). quad (q .kind) (q .a) x y) (g 2) (g 3)
+    ap₂ (λ (x y : ℕ). quad x y (getD ws (at + 2) 0) (getD ws (at + 3) 0)) (ap (λ (j : ℕ). getD ws j 0) z ∙ g 0) (g 1) ∙ ap₂ (λ (x y : ℕ). quad (q .mark) (q .a) x y) (g 2) (g 3)
 
--- components that were put are read, each a component of the rule
-pub components-back : (cs : List FlowSpecComponent) → FitAll cs → holdsOne 1 cs ≡ false → (ws : List ℕ) (at : ℕ) (more : List ℕ) → drop at ws ≡ allWords cs ++ more
-    → (componentsFrom (length cs) ws at ≡ cs) × (partsFrom (length cs) ws at ≡ true) × (drop (at + 4 * length cs) ws ≡ more)
-unfolding allWords componentsFrom partsFrom partAt partOf holdsOne
-components-back [] f o ws at more e = let z : at + 4 * 0 ≡ at = omega arith in (refl, refl, ap (λ (j : ℕ). drop j ws) z ∙ e)
-components-back (c ∷ cs) (f, g) o ws at more e =
-    let n = neither (eqb (countsAs c) 1) (holdsOne 1 cs) o in
-    let h = quad-here ws at (quadOf c) (allWords cs ++ more) e in
-    let i = components-back cs g (n .1) ws (at + 4) more (rest-here ws at _ e 4) in
-    let z : at + 4 + 4 * length cs ≡ at + 4 * suc (length cs) = omega arith in
-    let p : inRule (pick (isComponent (quadAt ws at)) (Is (componentOf (quadAt ws at))) NoRecord) ≡ true =
-    ap₂ (λ (b : Bool) (x : FlowSpecComponent). inRule (pick b (Is x) NoRecord)) (ap isComponent h ∙ is-one c f) (ap componentOf h ∙ component-back c f) ∙ some-type c (n .0) in (
-      ap₂ (λ (x : FlowSpecComponent) (l : List FlowSpecComponent). x ∷ l) (ap componentOf h ∙ component-back c f) (i .0),
-      ap₂ (λ (a b : Bool). a && b) p (i .1),
+-- pieces that were put are read, each a piece of the rule
+pub pieces-back : (ps : List Piece) → FitAll ps → (ws : List ℕ) (at : ℕ) (more : List ℕ) → drop at ws ≡ allWords ps ++ more
+    → (piecesFrom (length ps) ws at ≡ ps) × (recordsFrom (length ps) ws at ≡ true) × (drop (at + 4 * length ps) ws ≡ more)
+unfolding allWords piecesFrom recordsFrom pieceAt
+pieces-back [] f ws at more e = let z : at + 4 * 0 ≡ at = omega arith in (refl, refl, ap (λ (j : ℕ). drop j ws) z ∙ e)
+pieces-back (p ∷ ps) (f, g) ws at more e =
+    let h = quad-here ws at (quadOf p) (allWords ps ++ more) e in
+    let i = pieces-back ps g ws (at + 4) more (rest-here ws at _ e 4) in
+    let z : at + 4 + 4 * length ps ≡ at + 4 * suc (length ps) = omega arith in
+    let w : pieceOf (quadAt ws at) ≡ p = ap pieceOf h ∙ words-piece p f in (
+      ap₂ (λ (x : Piece) (l : List Piece). x ∷ l) w (i .0),
+      ap₂ (λ (a b : Bool). a && b) (ap isRecord w ∙ fit-record p f) (i .1),
       sym (ap (λ (j : ℕ). drop j ws) z) ∙ i .2,
     )
 
@@ -194,26 +169,26 @@ zeros-back (suc k) ws at more e =
     (ap₂ (λ (a b : Bool). a && b) (eq-eqb (getD ws at 0) 0 w) (i .0), sym (ap (λ (j : ℕ). drop j ws) z) ∙ i .1)
 
 -- the words of a rule
-pub length-rule : (cs : List FlowSpecComponent) (family first : ℕ) → length cs ≤ 13 → length (ruleWords cs family first) ≡ 64
+pub length-rule : (ps : List Piece) (h : Head) → length ps ≤ 13 → length (ruleWords ps h) ≡ 64
 unfolding ruleWords tailWords
-length-rule cs family first h =
-    let z : List ℕ = replicate (52 - 4 * length cs) 0 in
-    let t : List ℕ = length cs ∷ family ∷ first ∷ replicate 9 0 in
-    let y : length z ≡ 52 - 4 * length cs = length-replicate (52 - 4 * length cs) _ in
-    let a = length-append (allWords cs) (z ++ t) in
+length-rule ps h few =
+    let z : List ℕ = replicate (52 - 4 * length ps) 0 in
+    let t : List ℕ = length ps ∷ h .family ∷ h .first ∷ replicate 9 0 in
+    let y : length z ≡ 52 - 4 * length ps = length-replicate (52 - 4 * length ps) _ in
+    let a = length-append (allWords ps) (z ++ t) in
     let b = length-append z t in
-    let c = length-all cs in
+    let c = length-all ps in
     omega arith
 
-pub words-at : (cs : List FlowSpecComponent) (more : List ℕ) (k : ℕ) → k < length cs → take 4 (drop (4 * k) (allWords cs ++ more)) ≡ componentWords (getD cs k Nothing)
+pub words-at : (ps : List Piece) (more : List ℕ) (k : ℕ) → k < length ps → take 4 (drop (4 * k) (allWords ps ++ more)) ≡ pieceWords (getD ps k NoRecord)
 unfolding allWords
 words-at [] more k h = absurd (omega arith)
-words-at (c ∷ cs) more zero h = refl
-words-at (c ∷ cs) more (suc k) h =
+words-at (p ∷ ps) more zero h = refl
+words-at (p ∷ ps) more (suc k) h =
     let e : 4 * suc k ≡ 4 + 4 * k = omega arith in
-    ap (λ (j : ℕ). take 4 (drop j (componentWords c ++ (allWords cs ++ more)))) e
-    ∙ ap (λ (l : List ℕ). take 4 l) (sym (drop-drop (4 * k) 4 (componentWords c ++ (allWords cs ++ more))))
-    ∙ words-at cs more k (omega arith)
+    ap (λ (j : ℕ). take 4 (drop j (pieceWords p ++ (allWords ps ++ more)))) e
+    ∙ ap (λ (l : List ℕ). take 4 l) (sym (drop-drop (4 * k) 4 (pieceWords p ++ (allWords ps ++ more))))
+    ∙ words-at ps more k (omega arith)
 
 -- an overlay, from its place on
 pub drop-sets : (l : List ℕ) (i : ℕ) (vs : List ℕ) → i + length vs ≤ length l → drop i (sets l i vs) ≡ vs ++ drop (i + length vs) l
@@ -233,15 +208,15 @@ sets-same l i n h =
     ∙ take-append-drop i l
 
 -- words that start with a rule's are that rule
-module _ (cs : List FlowSpecComponent) (family first : ℕ) (few : length cs ≤ 13) (fit : FitAll cs) (full : holdsOne 1 cs ≡ false) (octet : family < 256) where
-  pub rule-here : (ws : List ℕ) (at : ℕ) (more : List ℕ) → drop at ws ≡ ruleWords cs family first ++ more → (isRule ws at ≡ true) × (storedAt ws at ≡ storedRule cs family first)
-  unfolding ruleWords tailWords isRule
+module _ (ps : List Piece) (h : Head) (few : length ps ≤ 13) (fit : FitAll ps) (octet : h .family < 256) where
+  pub rule-here : (ws : List ℕ) (at : ℕ) (more : List ℕ) → drop at ws ≡ ruleWords ps h ++ more → (isRule ws at ≡ true) × (storedAt ws at ≡ storedRule ps h)
+  unfolding ruleWords tailWords isRule isFramed
   rule-here ws at more e =
-      let n = length cs in
+      let n = length ps in
       let z : List ℕ = replicate (52 - 4 * n) 0 in
-      let t : List ℕ = n ∷ family ∷ first ∷ replicate 9 0 in
-      let d : drop at ws ≡ allWords cs ++ (z ++ (t ++ more)) = e ∙ append-assoc (allWords cs) (z ++ t) more ∙ ap (λ (l : List ℕ). allWords cs ++ l) (append-assoc z t more) in
-      let a = components-back cs fit full ws at (z ++ (t ++ more)) d in
+      let t : List ℕ = n ∷ h .family ∷ h .first ∷ replicate 9 0 in
+      let d : drop at ws ≡ allWords ps ++ (z ++ (t ++ more)) = e ∙ append-assoc (allWords ps) (z ++ t) more ∙ ap (λ (l : List ℕ). allWords ps ++ l) (append-assoc z t more) in
+      let a = pieces-back ps fit ws at (z ++ (t ++ more)) d in
       let b = zeros-back (52 - 4 * n) ws (at + 4 * n) (t ++ more) (a .2) in
       let k : at + 4 * n + (52 - 4 * n) ≡ at + 52 = omega arith in
       let u : drop (at + 52) ws ≡ t ++ more = sym (ap (λ (j : ℕ). drop j ws) k) ∙ b .1 in
@@ -251,25 +226,24 @@ module _ (cs : List FlowSpecComponent) (family first : ℕ) (few : length cs ≤
       let k3 : at + 52 + 3 ≡ at + 55 = omega arith in
       let w = word-here ws (at + 52) (t ++ more) u in
       let w0 : getD ws (at + 52) 0 ≡ n = sym (ap (λ (j : ℕ). getD ws j 0) k0) ∙ w 0 in
-      let w1 : getD ws (at + 53) 0 ≡ family = sym (ap (λ (j : ℕ). getD ws j 0) k1) ∙ w 1 in
-      let w2 : getD ws (at + 54) 0 ≡ first = sym (ap (λ (j : ℕ). getD ws j 0) k2) ∙ w 2 in
+      let w1 : getD ws (at + 53) 0 ≡ h .family = sym (ap (λ (j : ℕ). getD ws j 0) k1) ∙ w 1 in
+      let w2 : getD ws (at + 54) 0 ≡ h .first = sym (ap (λ (j : ℕ). getD ws j 0) k2) ∙ w 2 in
       let v : drop (at + 55) ws ≡ replicate 9 0 ++ more = sym (ap (λ (j : ℕ). drop j ws) k3) ∙ rest-here ws (at + 52) (t ++ more) u 3 in
       let l = zeros-back 9 ws (at + 55) more v in (
-        ap (λ (m : ℕ). leb m 13 && (partsFrom m ws at && (zerosFrom (52 - 4 * m) ws (at + 4 * m) && (ltb (getD ws (at + 53) 0) 256 && zerosFrom 9 ws (at + 55))))) w0
-            ∙ ap (λ (m : ℕ). leb n 13 && (partsFrom n ws at && (zerosFrom (52 - 4 * n) ws (at + 4 * n) && (ltb m 256 && zerosFrom 9 ws (at + 55))))) w1
-            ∙ rw (le-leb n 13 few, a .1, b .0, lt-ltb family 256 octet, l .0),
-        ap₂ (λ (m f : ℕ). storedRule (componentsFrom m ws at) f (getD ws (at + 54) 0)) w0 w1 ∙ ap₂ (λ (x : List FlowSpecComponent) (g : ℕ). storedRule x family g) (a .0) w2,
+        ap₂ (λ (m f : ℕ). (leb m 13 && (ltb f 256 && (zerosFrom (52 - 4 * m) ws (at + 4 * m) && zerosFrom 9 ws (at + 55)))) && recordsFrom m ws at) w0 w1
+            ∙ rw (le-leb n 13 few, lt-ltb (h .family) 256 octet, b .0, l .0, a .1),
+        ap₂ (λ (m f : ℕ). storedRule (piecesFrom m ws at) (head f (getD ws (at + 54) 0))) w0 w1 ∙ ap₂ (λ (x : List Piece) (g : ℕ). storedRule x (head (h .family) g)) (a .0) w2,
       )
 
   -- put, then read
-  pub put-read : (ws : List ℕ) (place : ℕ) → place < length ws / 64 → ruleAt (sets ws (64 * place) (ruleWords cs family first)) place ≡ accepts (storedRule cs family first)
-  put-read ws place h =
+  pub put-read : (ws : List ℕ) (place : ℕ) → place < length ws / 64 → ruleAt (sets ws (64 * place) (ruleWords ps h)) place ≡ accepts (storedRule ps h)
+  put-read ws place l =
       let at = 64 * place in
-      let vs = ruleWords cs family first in
-      let n : length vs ≡ 64 = length-rule cs family first few in
+      let vs = ruleWords ps h in
+      let n : length vs ≡ 64 = length-rule ps h few in
       let m : length (sets ws at vs) ≡ length ws = length-sets ws at vs in
       let g = rule-here (sets ws at vs) at (drop (at + length vs) ws) (drop-sets ws at vs (omega arith)) in
-      at-good (sets ws at vs) place (subst (λ (j : ℕ). place < j / 64) (sym m) h) (g .0) ∙ ap accepts (g .1)
+      at-good (sets ws at vs) place (subst (λ (j : ℕ). place < j / 64) (sym m) l) (g .0) ∙ ap accepts (g .1)
 
 -- the words behind tests that passed
 take-join : (ws : List ℕ) (at a b : ℕ) → take a (drop at ws) ++ take b (drop (at + a) ws) ≡ take (a + b) (drop at ws)
@@ -289,13 +263,13 @@ quad-there ws at h =
     ∙ ap (λ (l : List ℕ). getD ws at 0 ∷ getD ws (at + 1) 0 ∷ l) (word-there ws (at + 2) 1 (omega arith) ∙ ap (λ (j : ℕ). getD ws (at + 2) 0 ∷ take 1 (drop j ws)) c)
     ∙ ap (λ (l : List ℕ). getD ws at 0 ∷ getD ws (at + 1) 0 ∷ getD ws (at + 2) 0 ∷ l) (word-there ws (at + 3) 0 (omega arith))
 
-components-there : (k : ℕ) (ws : List ℕ) (at : ℕ) → at + 4 * k ≤ length ws → partsFrom k ws at ≡ true → allWords (componentsFrom k ws at) ≡ take (4 * k) (drop at ws)
-unfolding allWords componentsFrom partsFrom
-components-there zero ws at l g = refl
-components-there (suc k) ws at l g =
-    let b = both (inRule (partAt ws at)) (partsFrom k ws (at + 4)) g in
+pieces-there : (k : ℕ) (ws : List ℕ) (at : ℕ) → at + 4 * k ≤ length ws → recordsFrom k ws at ≡ true → allWords (piecesFrom k ws at) ≡ take (4 * k) (drop at ws)
+unfolding allWords piecesFrom recordsFrom pieceAt
+pieces-there zero ws at l g = refl
+pieces-there (suc k) ws at l g =
+    let b = both (isRecord (pieceAt ws at)) (recordsFrom k ws (at + 4)) g in
     let z : 4 + 4 * k ≡ 4 * suc k = omega arith in
-    ap₂ (λ (q : Quad) (r : List ℕ). quadWords q ++ r) (words-back (quadAt ws at) (part-in-rule ws at (b .0))) (components-there k ws (at + 4) (omega arith) (b .1))
+    ap₂ (λ (q : Quad) (r : List ℕ). quadWords q ++ r) (words-back (quadAt ws at) (b .0)) (pieces-there k ws (at + 4) (omega arith) (b .1))
     ∙ ap (λ (x : List ℕ). x ++ take (4 * k) (drop (at + 4) ws)) (sym (quad-there ws at (omega arith)))
     ∙ take-join ws at 4 (4 * k)
     ∙ ap (λ (j : ℕ). take j (drop at ws)) z
@@ -308,14 +282,14 @@ zeros-there (suc k) ws at l g =
     ap₂ (λ (x : ℕ) (r : List ℕ). x ∷ r) (sym (eqb-true (getD ws at 0) 0 (b .0))) (zeros-there k ws (at + 1) (omega arith) (b .1))
     ∙ sym (word-there ws at k (omega arith))
 
-pub rule-there : (ws : List ℕ) (at : ℕ) → at + 64 ≤ length ws → isRule ws at ≡ true → ruleWords (storedAt ws at .components) (storedAt ws at .family) (storedAt ws at .first) ≡ take 64 (drop at ws)
+pub rule-there : (ws : List ℕ) (at : ℕ) → at + 64 ≤ length ws → isRule ws at ≡ true → ruleWords (storedAt ws at .pieces) (storedAt ws at .head) ≡ take 64 (drop at ws)
 unfolding ruleWords tailWords
 rule-there ws at h e =
-    let r = is-a-rule ws at e in
+    let r = framed ws at (rule-framed ws at e) in
     let n = getD ws (at + 52) 0 in
     let f = r .few in
-    let m : length (componentsFrom n ws at) ≡ n = length-components n ws at in
-    let a = components-there n ws at (omega arith) (r .parts) in
+    let m : length (piecesFrom n ws at) ≡ n = length-pieces n ws at in
+    let a = pieces-there n ws at (omega arith) (rule-records ws at e) in
     let b = zeros-there (52 - 4 * n) ws (at + 4 * n) (omega arith) (r .unused) in
     let c = zeros-there 9 ws (at + 55) (omega arith) (r .last) in
     let k : at + 4 * n + (52 - 4 * n) ≡ at + 52 = omega arith in
@@ -328,7 +302,7 @@ rule-there ws at h e =
     ∙ ap (λ (l : List ℕ). n ∷ getD ws (at + 53) 0 ∷ l) (sym (word-there ws (at + 54) 9 (omega arith)) ∙ ap (λ (j : ℕ). take 10 (drop j ws)) (sym k2))
     ∙ ap (λ (l : List ℕ). n ∷ l) (sym (word-there ws (at + 53) 10 (omega arith)) ∙ ap (λ (j : ℕ). take 11 (drop j ws)) (sym k1))
     ∙ sym (word-there ws (at + 52) 11 (omega arith)) in
-    ap (λ (j : ℕ). allWords (componentsFrom n ws at) ++ (replicate (52 - 4 * j) 0 ++ (j ∷ getD ws (at + 53) 0 ∷ getD ws (at + 54) 0 ∷ replicate 9 0))) m
+    ap (λ (j : ℕ). allWords (piecesFrom n ws at) ++ (replicate (52 - 4 * j) 0 ++ (j ∷ getD ws (at + 53) 0 ∷ getD ws (at + 54) 0 ∷ replicate 9 0))) m
     ∙ ap₂ (λ (x y : List ℕ). x ++ (y ++ (n ∷ getD ws (at + 53) 0 ∷ getD ws (at + 54) 0 ∷ replicate 9 0))) a b
     ∙ ap (λ (x : List ℕ). take (4 * n) (drop at ws) ++ (take (52 - 4 * n) (drop (at + 4 * n) ws) ++ x)) (t ∙ ap (λ (j : ℕ). take 12 (drop j ws)) (sym k))
     ∙ ap (λ (x : List ℕ). take (4 * n) (drop at ws) ++ x) (take-join ws (at + 4 * n) (52 - 4 * n) 12)
@@ -353,31 +327,10 @@ module _ (ws : List ℕ) (place : ℕ) (s : StoredRule) (e : ruleAt ws place ≡
       (leb-false (length ws / 64) place (a .0), b .0, b .1)
 
   -- read, then put
-  pub read-put : sets ws (64 * place) (ruleWords (s .components) (s .family) (s .first)) ≡ ws
+  pub read-put : sets ws (64 * place) (ruleWords (s .pieces) (s .head)) ≡ ws
   read-put =
       let a = accepted in
       let h = a .0 in
-      ap (λ (x : StoredRule). sets ws (64 * place) (ruleWords (x .components) (x .family) (x .first))) (a .2)
+      ap (λ (x : StoredRule). sets ws (64 * place) (ruleWords (x .pieces) (x .head))) (a .2)
       ∙ ap (λ (l : List ℕ). sets ws (64 * place) l) (rule-there ws (64 * place) (omega arith) (a .1))
       ∙ sets-same ws (64 * place) 64 (omega arith)
-
--- a walk sees the rule's components, one at each place
-pub part-in : (n : ℕ) (ws : List ℕ) (at k : ℕ) → k < n → partsFrom n ws at ≡ true → partAt ws (at + 4 * k) ≡ Is (getD (componentsFrom n ws at) k Nothing)
-unfolding partsFrom componentsFrom partAt partOf
-part-in zero ws at k h e = absurd (omega arith)
-part-in (suc n) ws at zero h e =
-    let b = both (inRule (partAt ws at)) (partsFrom n ws (at + 4)) e in
-    let z : at + 4 * 0 ≡ at = omega arith in
-    ap (λ (j : ℕ). partAt ws j) z ∙ ap (λ (t : Bool). pick t (Is (componentOf (quadAt ws at))) NoRecord) (part-in-rule ws at (b .0))
-part-in (suc n) ws at (suc k) h e =
-    let b = both (inRule (partAt ws at)) (partsFrom n ws (at + 4)) e in
-    let z : at + 4 * suc k ≡ at + 4 + 4 * k = omega arith in
-    ap (λ (j : ℕ). partAt ws j) z ∙ part-in n ws (at + 4) k (omega arith) (b .1)
-
-pub part-of : (ws : List ℕ) (place : ℕ) (s : StoredRule) → ruleAt ws place ≡ accepts s → (k : ℕ) → k < length (s .components) → partAt ws (64 * place + 4 * k) ≡ Is (getD (s .components) k Nothing)
-part-of ws place s e k h =
-    let a = accepted ws place s e in
-    let n = getD ws (64 * place + 52) 0 in
-    let m : length (s .components) ≡ n = ap (λ (x : StoredRule). length (x .components)) (a .2) ∙ length-components n ws (64 * place) in
-    part-in n ws (64 * place) k (omega arith) (is-a-rule ws (64 * place) (a .1) .parts)
-    ∙ ap (λ (x : StoredRule). Is (getD (x .components) k Nothing)) (sym (a .2))

@@ -1,4 +1,4 @@
+pub mod Inverse
+pub mod Scans
 pub mod Tests
 pub mod Words
-pub mod Inverse
-pub mod Told

@@ -3,24 +3,20 @@ use mathlib.Core.Path.{sym, ap, _∙_}
 use mathlib.Core.Bool.{true, false}
 use borrow.Author.Tests.{eq-eqb, ne-eqb}
 use borrow.Author.Needs.{needs}
-use Rattle.stored.specs.declared.Part.the-variants.{Is}
-use Rattle.stored.proofs.Words.{part-list, part-far}
+use Rattle.stored.proofs.Words.{piece-list, piece-far}
 use Rattle.stored.proofs.list_in.Statement.{statement}
 use Rattle.stored.proofs.list_in.Tie as tie
 
-list-of-requires : tie.Need-list-of-requires
-list-of-requires c κs = search needs
-
 returns : tie.Need-returns
-returns c = let b = c .before .before .before .before .before in
-    ap Is (c .list-of .ensures) ∙ part-list (b .args .q) (b .args .kind) (b .pre .0) (b .pre .1) true (c .before .before .before .if1 .taken) (eq-eqb 0 _ (sym (c .before .if2 .taken)))
+returns c = let b = c .before .before .before .before in
+    piece-list (b .args .q) (b .args .tag) (b .pre .0) (b .pre .1) true (c .before .before .if1 .taken) (eq-eqb 0 _ (sym (c .if2 .taken)))
 
 returns-2 : tie.Need-returns-2
 returns-2 c = let b = c .before .before .before .before in
-    part-list (b .args .q) (b .args .kind) (b .pre .0) (b .pre .1) false (c .before .before .if1 .taken) (ne-eqb 0 _ (λ e. c .if2 .left (sym e)))
+    piece-list (b .args .q) (b .args .tag) (b .pre .0) (b .pre .1) false (c .before .before .if1 .taken) (ne-eqb 0 _ (λ e. c .if2 .left (sym e)))
 
 returns-3 : tie.Need-returns-3
-returns-3 c = let b = c .before .before in part-far (b .args .q) (b .args .kind) (b .pre .0) (b .pre .1) (c .if1 .left)
+returns-3 c = let b = c .before .before in piece-far (b .args .q) (b .args .tag) (b .pre .0) (b .pre .1) (c .if1 .left)
 
 pub list-in-spec : {M : Type 1} → statement M
-list-in-spec = tie.close (tie.spec list-of-requires returns returns-2 returns-3)
+list-in-spec = tie.close (tie.spec returns returns-2 returns-3)

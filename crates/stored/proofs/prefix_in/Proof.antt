@@ -2,9 +2,8 @@
 use mathlib.Core.Path.{sym, ap, _∙_}
 use mathlib.Core.Bool.{true, false}
 use borrow.Author.Needs.{needs}
-use Rattle.stored.specs.declared.Part.the-variants.{Is}
-use Rattle.stored.specs.Stored.{sameQuad}
-use Rattle.stored.proofs.Words.{part-prefix}
+use Rattle.stored.specs.Pieces.{sameQuad}
+use Rattle.stored.proofs.Words.{piece-prefix}
 use Rattle.stored.proofs.prefix_in.Statement.{statement}
 use Rattle.stored.proofs.prefix_in.Tie as tie
 
@@ -17,18 +16,15 @@ prefix-quad-requires c κs = search needs
 same-quad-requires : tie.Need-same-quad-requires
 same-quad-requires c κs = search needs
 
-prefix-of-requires : tie.Need-prefix-of-requires
-prefix-of-requires c κs = search needs
-
 returns : tie.Need-returns
-returns c = let b = c .before .before .before .before .before .before in
+returns c = let b = c .before .before .before .before .before in
     let a = b .args in
-    ap Is (c .prefix-of .ensures) ∙ part-prefix (a .q) true (a .kind) (b .pre .0) (b .pre .1) (b .pre .2) _ (c .before .before .before .before .network-of .ensures) (sym (c .before .before .same-quad .ensures ∙ ap (λ x. sameQuad x (a .q)) (c .before .before .before .prefix-quad .ensures)) ∙ c .before .if1 .taken)
+    piece-prefix (a .q) true (a .tag) (b .pre .0) (b .pre .1) (b .pre .2) _ (c .before .before .before .network-of .ensures) (sym (c .before .same-quad .ensures ∙ ap (λ x. sameQuad x (a .q)) (c .before .before .prefix-quad .ensures)) ∙ c .if1 .taken)
 
 returns-2 : tie.Need-returns-2
 returns-2 c = let b = c .before .before .before .before .before in
     let a = b .args in
-    part-prefix (a .q) false (a .kind) (b .pre .0) (b .pre .1) (b .pre .2) _ (c .before .before .before .network-of .ensures) (sym (c .before .same-quad .ensures ∙ ap (λ x. sameQuad x (a .q)) (c .before .before .prefix-quad .ensures)) ∙ c .if1 .left)
+    piece-prefix (a .q) false (a .tag) (b .pre .0) (b .pre .1) (b .pre .2) _ (c .before .before .before .network-of .ensures) (sym (c .before .same-quad .ensures ∙ ap (λ x. sameQuad x (a .q)) (c .before .before .prefix-quad .ensures)) ∙ c .if1 .left)
 
 pub prefix-in-spec : {M : Type 1} → statement M
 prefix-in-spec =
@@ -37,6 +33,5 @@ prefix-in-spec =
     network-of-requires
     prefix-quad-requires
     same-quad-requires
-    prefix-of-requires
     returns
     returns-2)

@@ -43,7 +43,7 @@ same-length : tie.Need-same-length
 same-length c = search needs
 
 returns : tie.Need-returns
-returns c = let a = c .args in sets-four (a .words .now) (a .at) (a .kind) (a .a) (a .b) (a .c)
+returns c = let a = c .args in sets-four (a .words .now) (a .at) (a .mark) (a .a) (a .b) (a .c)
 
 pub put-words-spec : {M : Type 1} → statement M
 put-words-spec =

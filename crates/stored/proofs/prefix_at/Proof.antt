@@ -1,17 +1,17 @@
--- `pieces::prefix_at` meets its contract. `Fronts.antt` has what the words of an IPv4 prefix are.
-use Rattle.pieces.proofs.Fronts.{ipv4-front}
+-- `stored::prefix_at` meets its contract. `Words.antt` has what the words of an IPv4 prefix are.
+use Rattle.stored.proofs.Words.{ipv4-front}
 use borrow.Author.Needs.{needs}
-use Rattle.pieces.proofs.prefix_at.Statement.{statement}
-use Rattle.pieces.proofs.prefix_at.Tie as tie
-use Rattle.pieces.proofs.prefix_at.Reads as reads
-use Rattle.pieces.proofs.prefix_at.Lts as lts
-use Rattle.pieces.proofs.other_piece.Reads as other-piece-reads
+use Rattle.stored.proofs.prefix_at.Statement.{statement}
+use Rattle.stored.proofs.prefix_at.Tie as tie
+use Rattle.stored.proofs.prefix_at.Reads as reads
+use Rattle.stored.proofs.prefix_at.Lts as lts
+use Rattle.stored.proofs.other_piece.Reads as other-piece-reads
 
-mul-kind : tie.Need-mul-kind
-mul-kind c = search needs
+mul-mark : tie.Need-mul-mark
+mul-mark c = search needs
 
-shared-slice-read-kind : tie.Need-shared-slice-read-kind
-shared-slice-read-kind c = search needs
+shared-slice-read-mark : tie.Need-shared-slice-read-mark
+shared-slice-read-mark c = search needs
 
 add-a : tie.Need-add-a
 add-a c = search needs
@@ -62,8 +62,8 @@ pub prefix-at-spec : {M : Type 1} → statement M
 prefix-at-spec =
     tie.close
     (tie.spec
-    mul-kind
-    shared-slice-read-kind
+    mul-mark
+    shared-slice-read-mark
     add-a
     mul-a
     shared-slice-read-a

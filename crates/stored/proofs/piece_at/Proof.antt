@@ -1,17 +1,17 @@
--- `pieces::piece_at` meets its contract. `Fronts.antt` has what the words of a list are.
-use Rattle.pieces.proofs.Fronts.{list-front}
+-- `stored::piece_at` meets its contract. `Words.antt` has what the words of a list are.
+use Rattle.stored.proofs.Words.{list-front}
 use borrow.Author.Needs.{needs}
-use Rattle.pieces.proofs.piece_at.Statement.{statement}
-use Rattle.pieces.proofs.piece_at.Tie as tie
-use Rattle.pieces.proofs.piece_at.Reads as reads
-use Rattle.pieces.proofs.piece_at.Lts as lts
-use Rattle.pieces.proofs.prefix_at.Reads as prefix-at-reads
+use Rattle.stored.proofs.piece_at.Statement.{statement}
+use Rattle.stored.proofs.piece_at.Tie as tie
+use Rattle.stored.proofs.piece_at.Reads as reads
+use Rattle.stored.proofs.piece_at.Lts as lts
+use Rattle.stored.proofs.prefix_at.Reads as prefix-at-reads
 
-mul-kind : tie.Need-mul-kind
-mul-kind c = search needs
+mul-mark : tie.Need-mul-mark
+mul-mark c = search needs
 
-shared-slice-read-kind : tie.Need-shared-slice-read-kind
-shared-slice-read-kind c = search needs
+shared-slice-read-mark : tie.Need-shared-slice-read-mark
+shared-slice-read-mark c = search needs
 
 add-if1 : tie.Need-add-if1
 add-if1 c = search needs
@@ -56,8 +56,8 @@ pub piece-at-spec : {M : Type 1} → statement M
 piece-at-spec =
     tie.close
     (tie.spec
-    mul-kind
-    shared-slice-read-kind
+    mul-mark
+    shared-slice-read-mark
     add-if1
     mul-if1
     shared-slice-read-if1
