@@ -1,14 +1,15 @@
 -- The bits of an address between two places: moved to the front of a number of 128 bits they compare alike.
 use Prim.Native.Nat.{ℕ, _+_, _-_, _*_, _/_, _%_, _^_, _≤_, _<_}
 use mathlib.Core.Path.{_≡_, sym, ap, ap₂, _∙_, subst}
+use mathlib.Core.Bool.{true}
 use mathlib.Core.Logic.{⊎-elim}
-use native.Mathlib.Nat.{add-zero, mul-one, mul-mod-left, eq-of-mul-eq-mul-right, mod-eq-of-lt, lt-of-lt-of-le, lt-of-le-of-lt, div-le-self}
+use native.Mathlib.Nat.{add-zero, mul-one, mod-one, mul-mod-left, eq-of-mul-eq-mul-right, mod-eq-of-lt, lt-of-lt-of-le, lt-of-le-of-lt, div-le-self}
 use native.Mathlib.Omega.{arith}
 use lib.Dec.{eqb}
-use lib.Pow.{pow-pos, pow-mono, shl-shr, mod-pow-add}
+use lib.Pow.{pow-pos, pow-mono, shl-shr, mod-pow-add, field, shr-mod}
 use Rattle.ground.proofs.Cases.{lt-or-le, eqb-iff}
 use Rattle.wide.specs.declared.Wide.{Wide}
-use Rattle.wide.specs.Numbers.{num, wideOf}
+use Rattle.wide.specs.Numbers.{wide, num, wideOf}
 use Rattle.wide.proofs.Halves.{num-wideOf}
 use Rattle.matching.specs.Rules.{sameBits}
 
@@ -42,3 +43,20 @@ module _ (width offset len a b d k u : ℕ) (x y : Wide) where
   by-moves ha hb ed ek eu ex ey =
       rw (ex, ey, num-wideOf (a / 2 ^ d * 2 ^ u % 2 ^ 128), num-wideOf (b / 2 ^ d * 2 ^ u % 2 ^ 128), eu, ← ed, ← ek)
       (same-moved a b d k ha hb)
+
+-- an IPv4 prefix no longer than its address: the first bits of 32
+pub by-shifts : (len x h l : ℕ) → len ≤ 32 → x < 2 ^ 32 → eqb (x / 2 ^ (32 - len)) (l % 2 ^ 32 / 2 ^ (32 - len)) ≡ sameBits 32 0 len x (wide h l)
+by-shifts len x h l k b =
+    let d = 32 - len in
+    let e : 32 ≡ len + d = omega arith in
+    let f : l % 2 ^ 32 ≡ wide h l % 2 ^ 32 = omega arith in
+    let z : len - 0 ≡ len = omega arith in
+    rw z
+    (ap₂ eqb (sym (shr-mod len d (subst (λ (w : ℕ). x < 2 ^ w) e b)))
+    (ap (λ (y : ℕ). y / 2 ^ d) (f ∙ ap (λ (w : ℕ). wide h l % 2 ^ w) e) ∙ field (wide h l) len d))
+
+-- a prefix that asks for no bits
+pub no-bits : (width offset len a b : ℕ) → len ≤ offset → sameBits width offset len a b ≡ true
+no-bits width offset len a b h =
+    let e : len - offset ≡ 0 = omega arith in
+    rw (e, mod-one (a / 2 ^ (width - len)), mod-one (b / 2 ^ (width - len)))

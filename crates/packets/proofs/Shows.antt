@@ -11,6 +11,7 @@ use Rattle.ground.specs.Picks.{pick}
 use Rattle.ground.proofs.Cases.{by-test}
 use Rattle.wide.specs.Numbers.{wide}
 use Rattle.packets.specs.declared.Place.{Place}
+use Rattle.packets.specs.declared.Shown.{Shown}
 use Rattle.packets.specs.Packets.{Field, absent, present, Pair, neither, both, packetOk, packetOf, packetAt}
 use Rattle.packets.specs.Shown.{addressOf, known, former, latter, either, numbersOf, placed, placeOf, shown, shownBy, numbersIn}
 use Rattle.packets.proofs.Lends.{are-twenty, lends, a-family}
@@ -96,5 +97,13 @@ module _ (ws : List ℕ) where
         (by-test (eqb type 13) (λ e. rw e (flagged known (flag 17) absent (present _) 18 1 refl refl)) (λ e. rw e
         (no-numbers (flag 0)))))))))))))))))))))))
 
-    pub shows : (type : ℕ) → numbersOf (packetAt ws) type ≡ held (placeOf type)
-    shows type = rw (lends ws ok) (by-rows type)
+    -- what `shown_to` answers holds the numbers
+    pub shown-numbers : (type : ℕ) (s : Shown) → s ≡ shownBy ws (placeOf type) → numbersOf (packetAt ws) type ≡ numbersIn ws (s .from) (s .count)
+    shown-numbers type s e = rw (lends ws ok, e) (by-rows type)
+
+  fewer : (b : Bool) (n : ℕ) → pick b 0 n ≤ n
+  fewer true n = omega arith
+  fewer false n = omega arith
+
+  pub shown-within : (type : ℕ) (s : Shown) → s ≡ shownBy ws (placeOf type) → s .from + s .count ≤ 20
+  shown-within type s e = rw e (omega (arith, fewer (eqb (getD ws (placeOf type .flag) 0) 0) (placeOf type .count), place-within type .1))
