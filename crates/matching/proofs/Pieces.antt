@@ -1,10 +1,11 @@
 -- A component by its form, and a list of operators by whether both lent lists hold it: what the code's tests say of `pieceMatches`.
-use Prim.Native.Nat.{ℕ, _+_}
+use Prim.Native.Nat.{ℕ, _+_, _≤_}
 use mathlib.Core.Path.{_≡_, sym, ap, _∙_}
-use mathlib.Core.Bool.{true, false}
+use mathlib.Core.Bool.{Bool, true, false, not}
 use mathlib.Core.List.{List}
 use lib.Dec.{leb}
 use lib.ListN.{length}
+use borrow.Author.Tests.{not-true, not-false, leb-true}
 use Rattle.operators.specs.Ops.{opsIn}
 use Rattle.rules.specs.declared.NetworkPrefix.{NetworkPrefix}
 use Rattle.stored.specs.declared.Piece.{Piece}
@@ -25,18 +26,21 @@ module _ (values octets : List ℕ) (first : ℕ) (p : Packet) (x : Piece) where
   unfolding pieceMatches
   no-record e = sym (ap (pieceMatches values octets first p) e)
 
--- a list of operators, by the tests that the code makes
-module _ (values octets : List ℕ) (first type start count : ℕ) (p : Packet) where
-  pub not-in-values : leb (first + start + count) (length values) ≡ false → false ≡ pieceMatches values octets first p (Operators type start count)
+-- a list of operators, by what `inside` has told of each lent list
+pub in-room : (n room : ℕ) (b : Bool) → b ≡ leb n room → not b ≡ false → n ≤ room
+in-room n room b e h = leb-true n room (sym e ∙ not-false b h)
+
+module _ (values octets : List ℕ) (first type start count : ℕ) (p : Packet) (v : Bool) (is-v : v ≡ leb (first + start + count) (length values)) where
+  pub not-in-values : not v ≡ true → false ≡ pieceMatches values octets first p (Operators type start count)
   unfolding pieceMatches
-  not-in-values h = sym (rw h)
+  not-in-values h = sym (rw (← is-v, not-true v h))
 
-  module _ (h : leb (first + start + count) (length values) ≡ true) where
-    pub not-in-octets : leb (first + start + count) (length octets) ≡ false → false ≡ pieceMatches values octets first p (Operators type start count)
+  module _ (h : not v ≡ false) (o : Bool) (is-o : o ≡ leb (first + start + count) (length octets)) where
+    pub not-in-octets : not o ≡ true → false ≡ pieceMatches values octets first p (Operators type start count)
     unfolding pieceMatches
-    not-in-octets k = sym (rw (h, k))
+    not-in-octets k = sym (rw (← is-v, ← is-o, not-false v h, not-true o k))
 
-    pub in-both : leb (first + start + count) (length octets) ≡ true
+    pub in-both : not o ≡ false
         → someMatches (testOf (p .family) type) (opsIn values octets (first + start) count) (numbersOf p type) ≡ pieceMatches values octets first p (Operators type start count)
     unfolding pieceMatches
-    in-both k = sym (rw (h, k))
+    in-both k = sym (rw (← is-v, ← is-o, not-false v h, not-false o k))

@@ -2,7 +2,7 @@
 -- with its prefix or the places of its operators. What of a packet each type asks about is a table of `packets`, `addressOf` and `numbersOf`.
 use Prim.Native.Nat.{ℕ, _+_, _-_, _/_, _%_, _^_}
 use mathlib.Core.List.{List}
-use mathlib.Core.Bool.{Bool, true, false, _&&_}
+use mathlib.Core.Bool.{Bool, false, _&&_}
 use lib.Dec.{leb, eqb}
 use lib.ListN.{length}
 use Rattle.ground.specs.Picks.{pick}

@@ -4,6 +4,7 @@
 ghost use mathlib.Core.Path.{_≡_};
 ghost use mathlib.Core.Bool.{true};
 ghost use Prim.Native.Nat.{_+_, _-_, _≤_};
+ghost use lib.Bits.{bitXor};
 ghost use lib.Dec.{leb};
 ghost use lib.ListN.{length};
 ghost use Rattle.wide.specs.Numbers.{num};
@@ -39,13 +40,24 @@ fn less(a: u8, b: u8) -> u8
     if a < b { 0 } else { a - b }
 }
 
+// The bits in which two addresses differ.
+fn apart(a: Wide, b: Wide) -> Wide
+    ensures { λ r. ⌜ num r ≡ bitXor (num a) (num b) ⌝ }
+{
+    Wide {
+        high: a.high ^ b.high,
+        low: a.low ^ b.low,
+    }
+}
+
 // Whether two addresses of so many bits agree from bit offset on, up to the length.
 fn same_bits(width: u8, offset: u8, length: u8, a: Wide, b: Wide) -> bool
     ensures { λ r. ⌜ r ≡ sameBits width offset length (num a) (num b) ⌝ }
 {
     let down = less(width, length) as u32;
     let up = less(128, less(length, offset)) as u32;
-    wide::same(wide::moved(a, down, up), wide::moved(b, down, up))
+    let left = wide::moved(apart(a, b), down, up);
+    wide::same(left, Wide { high: 0, low: 0 })
 }
 
 fn narrow(address: u32) -> Wide
@@ -158,7 +170,7 @@ fn some_matches(
     false
 }
 
-fn list_matches(
+fn operators_match(
     tag: u8,
     start: usize,
     count: usize,
@@ -187,7 +199,7 @@ fn piece_matches(piece: Piece, first: usize, values: &[u64], octets: &[u8], pack
     match piece {
         Piece::Prefix { tag, prefix } => prefix_matches(prefix, packets::address_of(packet, tag)),
         Piece::Operators { tag, start, count } => {
-            list_matches(tag, start, count, first, values, octets, packet)
+            operators_match(tag, start, count, first, values, octets, packet)
         }
         Piece::NoRecord => false,
     }

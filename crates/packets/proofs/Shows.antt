@@ -1,20 +1,20 @@
 -- The words of a packet in range hold what it shows to each type, where `placeOf` says: row by row of the two tables.
 use Prim.Native.Nat.{ℕ, _+_, _≤_, _<_}
-use mathlib.Core.Path.{_≡_, refl, sym, _∙_, ap}
+use mathlib.Core.Path.{_≡_, refl}
 use mathlib.Core.Bool.{Bool, true, false}
 use mathlib.Core.List.{List, [], _∷_}
 use native.Mathlib.Omega.{arith}
 use lib.Dec.{eqb}
-use lib.ListN.{length, getD}
+use lib.ListN.{getD}
 use borrow.Author.Tests.{eq-eqb, ne-eqb}
 use Rattle.ground.specs.Picks.{pick}
 use Rattle.ground.proofs.Cases.{by-test}
 use Rattle.wide.specs.Numbers.{wide}
 use Rattle.packets.specs.declared.Place.{Place}
 use Rattle.packets.specs.declared.Shown.{Shown}
-use Rattle.packets.specs.Packets.{Field, absent, present, Pair, neither, both, packetOk, packetOf, packetAt}
-use Rattle.packets.specs.Shown.{addressOf, known, former, latter, either, numbersOf, placed, placeOf, shown, shownBy, numbersIn}
-use Rattle.packets.proofs.Lends.{are-twenty, lends, a-family}
+use Rattle.packets.specs.Packets.{absent, present, neither, both, packetOk, packetOf, packetAt}
+use Rattle.packets.specs.Shown.{known, former, latter, either, numbersOf, placed, placeOf, shown, shownBy, numbersIn}
+use Rattle.packets.proofs.Lends.{lends, a-family}
 
 -- ---- the places are among the words
 

@@ -1,7 +1,7 @@
 -- A packet, which packets are in range, and which one 20 words lend: document 01, "Matching and ranking".
 use Prim.Native.Nat.{ℕ, _^_}
 use mathlib.Core.List.{List}
-use mathlib.Core.Bool.{Bool, true, false, not, _&&_, _||_}
+use mathlib.Core.Bool.{Bool, true, not, _&&_, _||_}
 use lib.ListN.{length, getD}
 use lib.Dec.{ltb, leb, eqb}
 use Rattle.ground.specs.Picks.{pick}

@@ -17,8 +17,8 @@ prefix-matches-requires c κs = search needs
 enum-known-piece-2 : tie.Need-enum-known-piece-2
 enum-known-piece-2 c = search needs
 
-list-matches-requires : tie.Need-list-matches-requires
-list-matches-requires c κs = search needs
+operators-match-requires : tie.Need-operators-match-requires
+operators-match-requires c κs = search needs
 
 enum-told : tie.Need-enum-told
 enum-told c = search needs
@@ -27,7 +27,7 @@ returns : tie.Need-returns
 returns c = c .prefix-matches .ensures ∙ by-prefix _ _ _ _ _ _ _ _ (c .before .before .before .piece .given .1) (c .before .address-of .ensures)
 
 returns-2 : tie.Need-returns-2
-returns-2 c = c .list-matches .ensures ∙ by-list _ _ _ _ _ _ _ _ (c .before .before .piece2 .given .1)
+returns-2 c = c .operators-match .ensures ∙ by-list _ _ _ _ _ _ _ _ (c .before .before .piece2 .given .1)
 
 returns-3 : tie.Need-returns-3
 returns-3 c = no-record _ _ _ _ _ (c .enum-told .given .1)
@@ -40,7 +40,7 @@ piece-matches-spec =
     address-of-requires
     prefix-matches-requires
     enum-known-piece-2
-    list-matches-requires
+    operators-match-requires
     enum-told
     returns
     returns-2

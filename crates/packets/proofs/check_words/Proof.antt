@@ -1,5 +1,4 @@
 -- `packets::check_words` meets its contract. The tests are the definition's, in its order: `twenty`.
-use native.Mathlib.Omega.{arith}
 use borrow.Author.Needs.{needs}
 use Rattle.packets.proofs.Lends.{not-twenty, twenty}
 use Rattle.packets.proofs.check_words.Statement.{statement}
