@@ -1,14 +1,16 @@
--- The bits of an address between two places: moved to the front of a number of 128 bits they compare alike.
+-- The bits of an address between two places: two addresses have the same if the bits in which they differ leave nothing there.
 use Prim.Native.Nat.{ℕ, _+_, _-_, _*_, _/_, _%_, _^_, _≤_, _<_}
 use mathlib.Core.Path.{_≡_, sym, ap, ap₂, _∙_, subst}
+use mathlib.Core.Bool.{true}
 use mathlib.Core.Logic.{⊎-elim}
-use native.Mathlib.Nat.{add-zero, mul-one, mul-mod-left, eq-of-mul-eq-mul-right, mod-eq-of-lt, lt-of-lt-of-le, lt-of-le-of-lt, div-le-self}
+use native.Mathlib.Nat.{add-zero, mul-one, zero-mul, mod-one, mul-mod-left, eq-of-mul-eq-mul-right, mod-eq-of-lt, lt-of-lt-of-le, lt-of-le-of-lt, div-le-self}
 use native.Mathlib.Omega.{arith}
+use lib.Bits.{bitXor, xor-add-and, xor-self, xor-lt, xor-shr, xor-mod, xor-block, and-le-l, and-le-r}
 use lib.Dec.{eqb}
-use lib.Pow.{pow-pos, pow-mono, shl-shr, mod-pow-add}
+use lib.Pow.{pow-pos, pow-mono, shl-shr, mod-pow-add, field, shr-mod}
 use Rattle.ground.proofs.Cases.{lt-or-le, eqb-iff}
 use Rattle.wide.specs.declared.Wide.{Wide}
-use Rattle.wide.specs.Numbers.{num, wideOf}
+use Rattle.wide.specs.Numbers.{wide, num, wideOf}
 use Rattle.wide.proofs.Halves.{num-wideOf}
 use Rattle.matching.specs.Rules.{sameBits}
 
@@ -28,17 +30,41 @@ front x k b =
     (λ l. let e : k + (128 - k) ≡ 128 = omega (arith, l) in sym (ap (λ (w : ℕ). x * 2 ^ (128 - k) % 2 ^ w) e) ∙ cut x k (128 - k))
     (lt-or-le 128 k)
 
-module _ (a b d k : ℕ) (ha : a < 2 ^ 128) (hb : b < 2 ^ 128) where
-  same-moved : eqb (a / 2 ^ d * 2 ^ (128 - k) % 2 ^ 128) (b / 2 ^ d * 2 ^ (128 - k) % 2 ^ 128) ≡ eqb (a / 2 ^ d % 2 ^ k) (b / 2 ^ d % 2 ^ k)
-  same-moved =
-      rw (front (a / 2 ^ d) k (lt-of-le-of-lt (div-le-self a (2 ^ d)) ha), front (b / 2 ^ d) k (lt-of-le-of-lt (div-le-self b (2 ^ d)) hb))
-      (eqb-iff _ _ _ _ (λ e. eq-of-mul-eq-mul-right (2 ^ (128 - k)) (pow-pos (128 - k)) _ _ e) (λ e. ap (λ (x : ℕ). x * 2 ^ (128 - k)) e))
+-- two numbers that differ in no bit
+xor-zero : (u v : ℕ) → bitXor u v ≡ 0 → u ≡ v
+xor-zero u v e = omega (arith, xor-add-and u v, and-le-l u v, and-le-r u v)
+
+none-differ : (u v k : ℕ) → eqb (bitXor u v * 2 ^ k) 0 ≡ eqb u v
+none-differ u v k =
+    eqb-iff _ _ _ _
+    (λ e. xor-zero u v (eq-of-mul-eq-mul-right (2 ^ k) (pow-pos k) (bitXor u v) 0 (e ∙ sym (zero-mul (2 ^ k)))))
+    (λ e. rw (e, xor-self v) (zero-mul (2 ^ k)))
 
 -- what `same_bits` answers, d down and u up
-module _ (width offset len a b d k u : ℕ) (x y : Wide) where
-  pub by-moves : a < 2 ^ 128 → b < 2 ^ 128 → d ≡ width - len → k ≡ len - offset → u ≡ 128 - k
-      → x ≡ wideOf (a / 2 ^ d * 2 ^ u % 2 ^ 128) → y ≡ wideOf (b / 2 ^ d * 2 ^ u % 2 ^ 128)
-      → eqb (num x) (num y) ≡ sameBits width offset len a b
-  by-moves ha hb ed ek eu ex ey =
-      rw (ex, ey, num-wideOf (a / 2 ^ d * 2 ^ u % 2 ^ 128), num-wideOf (b / 2 ^ d * 2 ^ u % 2 ^ 128), eu, ← ed, ← ek)
-      (same-moved a b d k ha hb)
+module _ (width offset len a b z d k u : ℕ) (x : Wide) where
+  pub by-moves : a < 2 ^ 128 → b < 2 ^ 128 → z ≡ bitXor a b → d ≡ width - len → k ≡ len - offset → u ≡ 128 - k → x ≡ wideOf (z / 2 ^ d * 2 ^ u % 2 ^ 128)
+      → eqb (num x) 0 ≡ sameBits width offset len a b
+  by-moves ha hb ez ed ek eu ex =
+      rw (ex, num-wideOf (z / 2 ^ d * 2 ^ u % 2 ^ 128), eu, ← ed, ← ek, front (z / 2 ^ d) k (lt-of-le-of-lt (div-le-self z (2 ^ d)) (rw ez (xor-lt 128 a b ha hb))), ez, xor-shr a b d, xor-mod (a / 2 ^ d) (b / 2 ^ d) k)
+      (none-differ (a / 2 ^ d % 2 ^ k) (b / 2 ^ d % 2 ^ k) (128 - k))
+
+-- an IPv4 prefix no longer than its address: the first bits of 32
+pub by-shifts : (len x h l : ℕ) → len ≤ 32 → x < 2 ^ 32 → eqb (x / 2 ^ (32 - len)) (l % 2 ^ 32 / 2 ^ (32 - len)) ≡ sameBits 32 0 len x (wide h l)
+by-shifts len x h l k b =
+    let d = 32 - len in
+    let e : 32 ≡ len + d = omega arith in
+    let f : l % 2 ^ 32 ≡ wide h l % 2 ^ 32 = omega arith in
+    let z : len - 0 ≡ len = omega arith in
+    rw z
+    (ap₂ eqb (sym (shr-mod len d (subst (λ (w : ℕ). x < 2 ^ w) e b)))
+    (ap (λ (y : ℕ). y / 2 ^ d) (f ∙ ap (λ (w : ℕ). wide h l % 2 ^ w) e) ∙ field (wide h l) len d))
+
+-- a prefix that asks for no bits
+pub no-bits : (width offset len a b : ℕ) → len ≤ offset → sameBits width offset len a b ≡ true
+no-bits width offset len a b h =
+    let e : len - offset ≡ 0 = omega arith in
+    rw (e, mod-one (a / 2 ^ (width - len)), mod-one (b / 2 ^ (width - len)))
+
+-- the halves of what differs
+pub halves-differ : (h l k m : ℕ) → l < 2 ^ 64 → m < 2 ^ 64 → wide (bitXor h k) (bitXor l m) ≡ bitXor (wide h l) (wide k m)
+halves-differ h l k m a b = sym (xor-block 64 h k l m a b)

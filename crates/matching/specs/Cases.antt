@@ -3,26 +3,22 @@ use Prim.Native.Nat.{ℕ}
 use mathlib.Core.Path.{_≡_, refl}
 use mathlib.Core.List.{List, [], _∷_, map}
 use mathlib.Core.Bool.{Bool, true, false}
-use Rattle.wide.specs.Numbers.{wideOf}
-use Rattle.operators.specs.Ops.{opsIn}
+use Rattle.operators.specs.Ops.{kindOf, opsIn}
 use Rattle.rules.specs.declared.NetworkPrefix.the-variants.{Ipv6Offset}
-use Rattle.rules.specs.declared.FlowSpecComponent.{FlowSpecComponent}
-use Rattle.rules.specs.declared.FlowSpecComponent.the-variants.{DestinationPrefix, SourcePrefix, Port, DestinationPort, SourcePort, Dscp, Fragment}
-use Rattle.stored.specs.Stored.{span}
-use Rattle.packets.specs.declared.Pair.{Pair}
-use Rattle.packets.specs.declared.Pair.the-variants.{Absent, Present}
-use Rattle.packets.specs.declared.Field.the-variants.{Absent as NoField, Present as Known}
-use Rattle.packets.specs.declared.Packet.{Packet}
-use Rattle.satisfying.specs.Lists.{compared, masked, joined, later, groups, all, any, listMatches, dataMatch}
-use Rattle.matching.specs.Rules.{componentMatches}
+use Rattle.stored.specs.declared.Piece.{Piece}
+use Rattle.stored.specs.declared.Piece.the-variants.{Prefix, Operators}
+use Rattle.packets.specs.Packets.{Pair, neither, both, absent, present, Packet}
+use Rattle.packets.specs.Shown.{numbersOf}
+use Rattle.satisfying.specs.Lists.{compared, masked, joined, later, groups, all, any, listMatches}
+use Rattle.matching.specs.Rules.{someMatches, pieceMatches}
 
 pub record Row : Type 0 where
-  pub component : FlowSpecComponent
+  pub piece : Piece
   pub packet : Packet
   pub answer : Bool
 
-unfoldable pub row : FlowSpecComponent → Packet → Bool → Row
-row c p b = record { component = c; packet = p; answer = b }
+unfoldable pub row : Piece → Packet → Bool → Row
+row x p b = record { piece = x; packet = p; answer = b }
 
 -- the lent operators: `03 50 45 5A 91 01 BB` at places 0 to 2, `81 4A` at 3, `80 11` at 4
 unfoldable pub octets : List ℕ
@@ -36,53 +32,54 @@ unfoldable pub packet : ℕ → ℕ → Pair → ℕ → ℕ → ℕ → Packet
 packet family to ports flags dscp fragment =
     record {
       family = family;
-      destination = wideOf to;
-      source = wideOf 0;
+      destination = to;
+      source = 0;
       protocol = 6;
       length = 40;
       dscp = dscp;
       fragment = fragment;
       ports = ports;
-      icmp = Absent;
-      flags = Known flags;
-      label = NoField;
+      icmp = neither;
+      flags = present flags;
+      label = absent;
     }
 
 unfoldable pub from-to : ℕ → ℕ → Packet
-from-to a b = packet 4 0 (Present a b) 0 0 0
+from-to a b = packet 4 0 (both a b) 0 0 0
 
 unfoldable pub flagged : ℕ → Packet
-flagged n = packet 4 0 Absent n 0 0
+flagged n = packet 4 0 neither n 0 0
 
 unfoldable pub to : ℕ → ℕ → Packet
-to family a = packet family a Absent 0 0 0
+to family a = packet family a neither 0 0 0
 
 unfoldable pub rows : List Row
 rows =
-    row (SourcePort (span 0 3)) (from-to 80 79) true
-    ∷ row (DestinationPort (span 0 3)) (flagged 0) false
+    -- the source port is the first of the two; there is no port to look at
+    row (Operators 6 0 3) (from-to 80 79) true
+    ∷ row (Operators 5 0 3) (flagged 0) false
     -- either port, but each by itself: 100 is 80 or more and 10 is 90 or less
-    ∷ row (Port (span 0 3)) (from-to 443 79) true
-    ∷ row (Port (span 0 3)) (from-to 79 443) true
-    ∷ row (Port (span 0 3)) (from-to 100 10) false
+    ∷ row (Operators 4 0 3) (from-to 443 79) true
+    ∷ row (Operators 4 0 3) (from-to 79 443) true
+    ∷ row (Operators 4 0 3) (from-to 100 10) false
     -- 74 counts as 10
-    ∷ row (Dscp (span 3 1)) (packet 4 0 Absent 0 10 0) true
+    ∷ row (Operators 11 3 1) (packet 4 0 neither 0 10 0) true
     -- of 17 only DF counts, and in family 6 nothing
-    ∷ row (Fragment (span 4 1)) (packet 4 0 Absent 0 0 1) true
-    ∷ row (Fragment (span 4 1)) (packet 6 0 Absent 0 0 1) false
+    ∷ row (Operators 12 4 1) (packet 4 0 neither 0 0 1) true
+    ∷ row (Operators 12 4 1) (packet 6 0 neither 0 0 1) false
     -- bits 63 and 64 of an address, whatever the others are
-    ∷ row (DestinationPrefix (Ipv6Offset 65 63 1 9223372036854775808)) (to 6 27670116110564327429) true
-    ∷ row (DestinationPrefix (Ipv6Offset 65 63 1 9223372036854775808)) (to 6 18446744073709551616) false
+    ∷ row (Prefix 1 (Ipv6Offset 65 63 1 9223372036854775808)) (to 6 27670116110564327429) true
+    ∷ row (Prefix 1 (Ipv6Offset 65 63 1 9223372036854775808)) (to 6 18446744073709551616) false
     -- no bits asked for: every address
-    ∷ row (SourcePrefix (Ipv6Offset 0 0 0 0)) (to 6 1) true
+    ∷ row (Prefix 2 (Ipv6Offset 0 0 0 0)) (to 6 1) true
     ∷ []
 
 unfoldable pub gives : Row → Bool
-gives r = componentMatches values octets 0 (r .packet) (r .component)
+gives r = pieceMatches values octets 0 (r .packet) (r .piece)
 
 unfoldable pub says : Row → Bool
 says r = r .answer
 
 pub cases : map gives rows ≡ map says rows
-unfolding gives says rows row values octets packet from-to flagged to componentMatches dataMatch opsIn listMatches groups joined later all any compared masked
+unfolding gives says rows row values octets packet from-to flagged to pieceMatches someMatches numbersOf kindOf opsIn listMatches groups joined later all any compared masked
 cases = refl

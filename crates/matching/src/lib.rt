@@ -1,33 +1,23 @@
-// Matching: whether a packet satisfies a component, a rule. A rule is walked in its words, and nothing of it is copied.
+// Matching: whether a packet satisfies a component, a rule. Rule and packet are taken in the words that lend them, and nothing of either is copied.
 //
-// Whether the packet is in range and the rule is well-formed is the chooser's to ask, before this.
+// Whether the packet is in range and the rule is well-formed is the chooser's to ask, before this: the functions with a `requires` are no entry points.
 ghost use mathlib.Core.Path.{_≡_};
-ghost use mathlib.Core.Bool.{true, _&&_};
+ghost use mathlib.Core.Bool.{true};
 ghost use Prim.Native.Nat.{_+_, _-_, _≤_};
+ghost use lib.Bits.{bitXor};
 ghost use lib.Dec.{leb};
 ghost use lib.ListN.{length};
 ghost use Rattle.wide.specs.Numbers.{num};
+ghost use Rattle.operators.specs.Ops.{opsIn};
+ghost use Rattle.stored.specs.declared.Piece.the-variants.{Operators as operators};
 ghost use Rattle.stored.specs.Stored.{isRule, storedAt};
-ghost use Rattle.satisfying.specs.Lists.{dataMatch};
-ghost use Rattle.matching.specs.Rules.{sameBits, prefixMatches, firstOf, secondOf, eitherOf, knownOf, fragmentBits, numeric, bitmask, askedOf, named, opsOf, componentMatches, partMatches, ruleMatches};
-use operators::Kind;
-use packets::Field;
-use packets::Packet;
-use packets::Pair;
-use rules::FlowSpecComponent;
+ghost use Rattle.packets.specs.Packets.{packetOk, packetAt};
+ghost use Rattle.packets.specs.Shown.{numbersOf};
+ghost use Rattle.matching.specs.Rules.{sameBits, prefixMatches, countedBits, testOf, someMatches, pieceMatches, ruleMatches};
 use rules::NetworkPrefix;
-use rules::Span;
-use satisfying::Data;
 use satisfying::Test;
-use stored::Part;
+use stored::Piece;
 use wide::Wide;
-
-// What a component asks of a packet: nothing that could be met, an address's bits, or that a number satisfies a list.
-pub enum Asked {
-    Never,
-    Bits(NetworkPrefix, Wide),
-    Numbers(Span, Test, Data),
-}
 
 const ALL_BITS: u64 = 18446744073709551615;
 
@@ -44,31 +34,20 @@ fn inside(room: usize, first: usize, start: usize, count: usize) -> bool
     first <= room - count - start
 }
 
-fn span_matches(
-    test: Test,
-    numbers: Data,
-    values: &[u64],
-    octets: &[u8],
-    first: usize,
-    span: Span,
-) -> bool
-    ensures { λ r. ⌜ r ≡ (named (now (values .entry)) (now (octets .entry)) first span && dataMatch test numbers (opsOf (now (values .entry)) (now (octets .entry)) first span)) ⌝ }
-{
-    let start = span.start;
-    let count = span.count;
-    if !inside(values.len(), first, start, count) {
-        return false;
-    }
-    if !inside(octets.len(), first, start, count) {
-        return false;
-    }
-    satisfying::data_match(test, numbers, values, octets, first + start, count)
-}
-
 fn less(a: u8, b: u8) -> u8
     ensures { λ r. ⌜ r ≡ a - b ⌝ }
 {
     if a < b { 0 } else { a - b }
+}
+
+// The bits in which two addresses differ.
+fn apart(a: Wide, b: Wide) -> Wide
+    ensures { λ r. ⌜ num r ≡ bitXor (num a) (num b) ⌝ }
+{
+    Wide {
+        high: a.high ^ b.high,
+        low: a.low ^ b.low,
+    }
 }
 
 // Whether two addresses of so many bits agree from bit offset on, up to the length.
@@ -77,7 +56,8 @@ fn same_bits(width: u8, offset: u8, length: u8, a: Wide, b: Wide) -> bool
 {
     let down = less(width, length) as u32;
     let up = less(128, less(length, offset)) as u32;
-    wide::same(wide::moved(a, down, up), wide::moved(b, down, up))
+    let left = wide::moved(apart(a, b), down, up);
+    wide::same(left, Wide { high: 0, low: 0 })
 }
 
 fn narrow(address: u32) -> Wide
@@ -89,11 +69,22 @@ fn narrow(address: u32) -> Wide
     }
 }
 
+// An IPv4 prefix by two shifts. A longer one than its address is in no well-formed rule.
+fn ipv4_matches(length: u8, address: u32, a: Wide) -> bool
+    ensures { λ r. ⌜ r ≡ sameBits 32 0 length address (num a) ⌝ }
+{
+    if 32 < length {
+        return same_bits(32, 0, length, narrow(address), a);
+    }
+    let down = (32 - length) as u32;
+    (address as u64) >> down == (a.low % 4294967296) >> down
+}
+
 fn prefix_matches(prefix: NetworkPrefix, a: Wide) -> bool
     ensures { λ r. ⌜ r ≡ prefixMatches prefix (num a) ⌝ }
 {
     match prefix {
-        NetworkPrefix::Ipv4 { length, address } => same_bits(32, 0, length, narrow(address), a),
+        NetworkPrefix::Ipv4 { length, address } => ipv4_matches(length, address, a),
         NetworkPrefix::Ipv6 { length, high, low } => same_bits(
             128,
             0,
@@ -127,139 +118,112 @@ fn prefix_matches(prefix: NetworkPrefix, a: Wide) -> bool
     }
 }
 
-fn first_of(pair: Pair) -> Data
-    ensures { λ r. ⌜ r ≡ firstOf pair ⌝ }
+fn counted_bits(family: u64, tag: u8) -> u64
+    ensures { λ r. ⌜ r ≡ countedBits family tag ⌝ }
 {
-    match pair {
-        Pair::Absent => Data::Absent,
-        Pair::Present(a, _) => Data::One(a),
+    if tag == 11 {
+        return 63;
     }
-}
-
-fn second_of(pair: Pair) -> Data
-    ensures { λ r. ⌜ r ≡ secondOf pair ⌝ }
-{
-    match pair {
-        Pair::Absent => Data::Absent,
-        Pair::Present(_, b) => Data::One(b),
-    }
-}
-
-fn either_of(pair: Pair) -> Data
-    ensures { λ r. ⌜ r ≡ eitherOf pair ⌝ }
-{
-    match pair {
-        Pair::Absent => Data::Absent,
-        Pair::Present(a, b) => Data::Either(a, b),
-    }
-}
-
-fn known_of(field: Field) -> Data
-    ensures { λ r. ⌜ r ≡ knownOf field ⌝ }
-{
-    match field {
-        Field::Absent => Data::Absent,
-        Field::Present(n) => Data::One(n),
-    }
-}
-
-fn fragment_bits(family: u64) -> u64
-    ensures { λ r. ⌜ r ≡ fragmentBits family ⌝ }
-{
-    if family == 6 { 14 } else { 15 }
-}
-
-// Comparisons with the bits of a value that count, and masks.
-fn compares(bits: u64) -> Test
-    ensures { λ r. ⌜ r ≡ numeric bits ⌝ }
-{
-    Test {
-        kind: Kind::Numeric,
-        bits: bits,
-    }
-}
-
-fn masks(bits: u64) -> Test
-    ensures { λ r. ⌜ r ≡ bitmask bits ⌝ }
-{
-    Test {
-        kind: Kind::Bitmask,
-        bits: bits,
-    }
-}
-
-// What a component asks of a packet.
-fn asks(component: FlowSpecComponent, p: Packet) -> Asked
-    ensures { λ r. ⌜ r ≡ askedOf p component ⌝ }
-{
-    let destination = p.destination;
-    let source = p.source;
-    let ports = p.ports;
-    let icmp = p.icmp;
-    let flags = p.flags;
-    let label = p.label;
-    let whole = compares(ALL_BITS);
-    match component {
-        FlowSpecComponent::Nothing => Asked::Never,
-        FlowSpecComponent::DestinationPrefix(prefix) => Asked::Bits(prefix, destination),
-        FlowSpecComponent::SourcePrefix(prefix) => Asked::Bits(prefix, source),
-        FlowSpecComponent::IpProtocol(s) => Asked::Numbers(s, whole, Data::One(p.protocol)),
-        FlowSpecComponent::Port(s) => Asked::Numbers(s, whole, either_of(ports)),
-        FlowSpecComponent::DestinationPort(s) => Asked::Numbers(s, whole, second_of(ports)),
-        FlowSpecComponent::SourcePort(s) => Asked::Numbers(s, whole, first_of(ports)),
-        FlowSpecComponent::IcmpType(s) => Asked::Numbers(s, whole, first_of(icmp)),
-        FlowSpecComponent::IcmpCode(s) => Asked::Numbers(s, whole, second_of(icmp)),
-        FlowSpecComponent::TcpFlags(s) => Asked::Numbers(s, masks(ALL_BITS), known_of(flags)),
-        FlowSpecComponent::PacketLength(s) => Asked::Numbers(s, whole, Data::One(p.length)),
-        FlowSpecComponent::Dscp(s) => Asked::Numbers(s, compares(63), Data::One(p.dscp)),
-        FlowSpecComponent::Fragment(s) => {
-            Asked::Numbers(s, masks(fragment_bits(p.family)), Data::One(p.fragment))
+    if tag == 12 {
+        if family == 6 {
+            return 14;
         }
-        FlowSpecComponent::FlowLabel(s) => Asked::Numbers(s, whole, known_of(label)),
+        return 15;
+    }
+    ALL_BITS
+}
+
+fn test_of(family: u64, tag: u8) -> Test
+    ensures { λ r. ⌜ r ≡ testOf family tag ⌝ }
+{
+    Test {
+        kind: operators::kind_of(tag),
+        bits: counted_bits(family, tag),
     }
 }
 
-// Whether a packet satisfies a component of a rule whose operators begin at a place of the lent lists.
-pub fn component_matches(
-    component: FlowSpecComponent,
+// Whether one of the numbers that a packet shows to a type satisfies the count operators from a place on.
+fn some_matches(
+    tag: u8,
+    values: &[u64],
+    octets: &[u8],
+    at: usize,
+    count: usize,
+    packet: &[u64],
+) -> bool
+    requires packet { ⌜ packetOk (packetAt (now packet)) ≡ true ⌝ }
+    requires values { ⌜ at + count ≤ length (now values) ⌝ }
+    requires octets { ⌜ at + count ≤ length (now octets) ⌝ }
+    ensures { λ r. ⌜ r ≡ someMatches (testOf (packetAt (now (packet .entry)) .family) tag) (opsIn (now (values .entry)) (now (octets .entry)) at count) (numbersOf (packetAt (now (packet .entry))) tag) ⌝ }
+{
+    let test = test_of(packets::family_of(packet), tag);
+    let shown = packets::shown_to(packet, tag);
+    let from = shown.from;
+    let many = shown.count;
+    let mut i: usize = 0;
+    while i < many {
+        if satisfying::list_matches(test, values, octets, at, count, packet[from + i]) {
+            return true;
+        }
+        i += 1;
+    }
+    false
+}
+
+fn operators_match(
+    tag: u8,
+    start: usize,
+    count: usize,
     first: usize,
     values: &[u64],
     octets: &[u8],
-    p: Packet,
+    packet: &[u64],
 ) -> bool
-    ensures { λ r. ⌜ r ≡ componentMatches (now (values .entry)) (now (octets .entry)) first p component ⌝ }
+    requires { ⌜ packetOk (packetAt (now packet)) ≡ true ⌝ }
+    ensures { λ r. ⌜ r ≡ pieceMatches (now (values .entry)) (now (octets .entry)) first (packetAt (now (packet .entry))) (operators tag start count) ⌝ }
 {
-    let asked = asks(component, p);
-    match asked {
-        Asked::Never => false,
-        Asked::Bits(prefix, address) => prefix_matches(prefix, address),
-        Asked::Numbers(span, test, numbers) => {
-            span_matches(test, numbers, values, octets, first, span)
+    if !inside(values.len(), first, start, count) {
+        return false;
+    }
+    if !inside(octets.len(), first, start, count) {
+        return false;
+    }
+    some_matches(tag, values, octets, first + start, count, packet)
+}
+
+// Whether a packet satisfies a component of a rule whose operators begin at a place of the lent lists.
+fn piece_matches(piece: Piece, first: usize, values: &[u64], octets: &[u8], packet: &[u64]) -> bool
+    requires { ⌜ packetOk (packetAt (now packet)) ≡ true ⌝ }
+    ensures { λ r. ⌜ r ≡ pieceMatches (now (values .entry)) (now (octets .entry)) first (packetAt (now (packet .entry))) piece ⌝ }
+{
+    match piece {
+        Piece::Prefix { tag, prefix } => prefix_matches(prefix, packets::address_of(packet, tag)),
+        Piece::Operators { tag, start, count } => {
+            operators_match(tag, start, count, first, values, octets, packet)
         }
+        Piece::NoRecord => false,
     }
 }
 
-fn part_matches(part: Part, first: usize, values: &[u64], octets: &[u8], p: Packet) -> bool
-    ensures { λ r. ⌜ r ≡ partMatches (now (values .entry)) (now (octets .entry)) first p part ⌝ }
-{
-    match part {
-        Part::Is(component) => component_matches(component, first, values, octets, p),
-        Part::NoRecord => false,
-    }
-}
-
-// Whether a packet satisfies the rule in the 64 words from a word on, which is_rule has told to be one. No entry point.
-pub fn rule_matches(words: &[u64], base: usize, values: &[u64], octets: &[u8], p: Packet) -> bool
+// Whether a packet satisfies the rule in the 64 words from a word on. No entry point.
+pub fn rule_matches(
+    words: &[u64],
+    base: usize,
+    values: &[u64],
+    octets: &[u8],
+    packet: &[u64],
+) -> bool
     requires long { ⌜ base + 64 ≤ length (now words) ⌝ }
     requires rule { ⌜ isRule (now words) base ≡ true ⌝ }
-    ensures { λ r. ⌜ r ≡ ruleMatches (now (values .entry)) (now (octets .entry)) p (storedAt (now (words .entry)) base) ⌝ }
+    requires packet { ⌜ packetOk (packetAt (now packet)) ≡ true ⌝ }
+    ensures { λ r. ⌜ r ≡ ruleMatches (now (values .entry)) (now (octets .entry)) (packetAt (now (packet .entry))) (storedAt (now (words .entry)) base) ⌝ }
 {
-    let count = words[base + 52] as usize;
-    let first = words[base + 54] as usize;
+    let count = stored::count_at(words, base);
+    let first = stored::first_at(words, base);
     let mut i = 0;
     while i < count {
-        let part = stored::component_at(words, base + 4 * i);
-        if !part_matches(part, first, values, octets, p) {
+        let piece = stored::piece_at(words, base + 4 * i);
+        if !piece_matches(piece, first, values, octets, packet) {
             return false;
         }
         i += 1;

@@ -1,17 +1,37 @@
--- Which packets are in range, and which packet words lend: document 01, "Matching and ranking".
+-- A packet, which packets are in range, and which one 20 words lend: document 01, "Matching and ranking".
 use Prim.Native.Nat.{ℕ, _^_}
 use mathlib.Core.List.{List}
-use mathlib.Core.Bool.{Bool, true, false, not, _&&_, _||_}
+use mathlib.Core.Bool.{Bool, true, not, _&&_, _||_}
 use lib.ListN.{length, getD}
 use lib.Dec.{ltb, leb, eqb}
 use Rattle.ground.specs.Picks.{pick}
-use Rattle.wide.specs.declared.Wide.{Wide}
-use Rattle.wide.specs.Numbers.{num}
-use Rattle.packets.specs.declared.Pair.{Pair}
-use Rattle.packets.specs.declared.Pair.the-variants.{Absent as NoPair, Present as Two}
-use Rattle.packets.specs.declared.Field.{Field}
-use Rattle.packets.specs.declared.Field.the-variants.{Absent as NoField, Present as One}
-use Rattle.packets.specs.declared.Packet.{Packet}
+use Rattle.wide.specs.Numbers.{wide}
+
+-- ---- a packet: "family, two addresses, protocol .., length .., DSCP .., fragment bits .., and, each present or absent: a port pair .., an ICMP type and
+-- code pair .., TCP flags, a flow label"
+
+pub data Field : Type 0 where
+  absent : Field
+  present : ℕ → Field
+
+-- the ports, source and destination; the ICMP type and code
+pub data Pair : Type 0 where
+  neither : Pair
+  both : ℕ → ℕ → Pair
+
+-- "Fragment bits: DF 1, IsF 2, FF 4, LF 8"
+pub record Packet : Type 0 where
+  pub family : ℕ
+  pub destination : ℕ
+  pub source : ℕ
+  pub protocol : ℕ
+  pub length : ℕ
+  pub dscp : ℕ
+  pub fragment : ℕ
+  pub ports : Pair
+  pub icmp : Pair
+  pub flags : Field
+  pub label : Field
 
 -- ---- ranges: "Out of range is BadPacket, and so is a flow label in family 4, a family other than 4 or 6, or an address too wide for its family."
 
@@ -24,17 +44,17 @@ addressFits family a = not (eqb family 4) || ltb a (2 ^ 32)
 
 -- a field that is absent has no number to be out of range
 abbrev pub pairFits : ℕ → Pair → Bool
-pairFits most NoPair = true
-pairFits most (Two a b) = leb a most && leb b most
+pairFits most neither = true
+pairFits most (both a b) = leb a most && leb b most
 
 abbrev pub fieldFits : ℕ → Field → Bool
-fieldFits most NoField = true
-fieldFits most (One n) = leb n most
+fieldFits most absent = true
+fieldFits most (present n) = leb n most
 
 -- "a flow label (to 1,048,575; never in family 4)"
 abbrev pub labelFits : ℕ → Field → Bool
-labelFits family NoField = true
-labelFits family (One n) = not (eqb family 4) && leb n 1048575
+labelFits family absent = true
+labelFits family (present n) = not (eqb family 4) && leb n 1048575
 
 -- "TCP flags are one octet"
 abbrev pub mostFlags : ℕ
@@ -45,8 +65,8 @@ mostFlags = 255
 unfoldable pub packetOk : Packet → Bool
 packetOk p =
     familyOk (p .family)
-    && addressFits (p .family) (num (p .destination))
-    && addressFits (p .family) (num (p .source))
+    && addressFits (p .family) (p .destination)
+    && addressFits (p .family) (p .source)
     && leb (p .protocol) 255
     && leb (p .length) 65575
     && leb (p .dscp) 63
@@ -59,23 +79,20 @@ packetOk p =
 -- ---- words: how a host lends a packet. Each field that may be absent has a word before it, 0 or 1; behind a 0 nothing is looked at
 
 abbrev pub pairOf : ℕ → ℕ → ℕ → Pair
-pairOf flag a b = pick (eqb flag 0) NoPair (Two a b)
+pairOf flag a b = pick (eqb flag 0) neither (both a b)
 
 abbrev pub fieldOf : ℕ → ℕ → Field
-fieldOf flag n = pick (eqb flag 0) NoField (One n)
+fieldOf flag n = pick (eqb flag 0) absent (present n)
 
 abbrev pub flagsOk : List ℕ → Bool
 flagsOk ws = leb (getD ws 9 0) 1 && leb (getD ws 12 0) 1 && leb (getD ws 15 0) 1 && leb (getD ws 17 0) 1 && eqb (getD ws 19 0) 0
-
-abbrev pub address : ℕ → ℕ → Wide
-address h l = record { high = h; low = l }
 
 abbrev pub packetOf : List ℕ → Packet
 packetOf ws =
     record {
       family = getD ws 0 0;
-      destination = address (getD ws 1 0) (getD ws 2 0);
-      source = address (getD ws 3 0) (getD ws 4 0);
+      destination = wide (getD ws 1 0) (getD ws 2 0);
+      source = wide (getD ws 3 0) (getD ws 4 0);
       protocol = getD ws 5 0;
       length = getD ws 6 0;
       dscp = getD ws 7 0;
@@ -91,16 +108,16 @@ abbrev pub noPacket : Packet
 noPacket =
     record {
       family = 0;
-      destination = address 0 0;
-      source = address 0 0;
+      destination = 0;
+      source = 0;
       protocol = 0;
       length = 0;
       dscp = 0;
       fragment = 0;
-      ports = NoPair;
-      icmp = NoPair;
-      flags = NoField;
-      label = NoField;
+      ports = neither;
+      icmp = neither;
+      flags = absent;
+      label = absent;
     }
 
 unfoldable pub packetAt : List ℕ → Packet

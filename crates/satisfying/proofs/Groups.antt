@@ -1,15 +1,12 @@
 -- The groups of a list, read from the left: `going g os` is the answer where the group so far has the truth g.
-use Prim.Native.Nat.{ℕ, zero, suc, _+_, _-_, _≤_, _<_}
-use mathlib.Core.Path.{_≡_, refl, sym, _∙_, ap}
+use Prim.Native.Nat.{ℕ, suc, _+_, _-_, _≤_, _<_}
+use mathlib.Core.Path.{_≡_, refl, sym, _∙_}
 use mathlib.Core.List.{List, [], _∷_}
-use mathlib.Core.Bool.{Bool, true, false, not, _&&_, _||_, false≢true, or-false}
+use mathlib.Core.Bool.{Bool, true, false, not, _&&_, _||_, false≢true}
 use native.Mathlib.Omega.{arith}
 use lib.ListN.{getD}
 use Rattle.operators.specs.Ops.{Op, op, opsIn}
-use Rattle.satisfying.specs.declared.Test.{Test}
-use Rattle.satisfying.specs.declared.Data.{Data}
-use Rattle.satisfying.specs.declared.Data.the-variants.{Absent, One, Either}
-use Rattle.satisfying.specs.Lists.{truthOf, andOf, joined, later, groups, all, any, listMatches, dataMatch}
+use Rattle.satisfying.specs.Lists.{andOf, joined, later, groups, all, any, listMatches}
 
 module _ (t : Op → Bool) where
   -- the group so far goes on with the operators that AND joins to it, or another group is true
@@ -94,18 +91,3 @@ module _ (values octets : List ℕ) (at count : ℕ) where
 
       pub turn-end : count ≤ i → going t g (left i) ≡ g
       turn-end h = rw (left-none i h) (ends t g)
-
--- ---- one of some numbers
-
-module _ (test : Test) (ops : List Op) where
-  pub by-first : (a b : ℕ) (d : Data) → d ≡ Either a b → listMatches (truthOf test a) ops ≡ true → true ≡ dataMatch test d ops
-  unfolding dataMatch any all
-  by-first a b d e h = sym (rw (e, h))
-
-  pub by-second : (a b : ℕ) (d : Data) → d ≡ Either a b → listMatches (truthOf test a) ops ≡ false → listMatches (truthOf test b) ops ≡ dataMatch test d ops
-  unfolding dataMatch any
-  by-second a b d e h = sym (rw (e, h) (or-false (listMatches (truthOf test b) ops)))
-
-  pub by-one : (n : ℕ) (d : Data) → d ≡ One n → listMatches (truthOf test n) ops ≡ dataMatch test d ops
-  unfolding dataMatch any
-  by-one n d e = sym (rw e (or-false (listMatches (truthOf test n) ops)))

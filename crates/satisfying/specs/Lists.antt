@@ -11,8 +11,6 @@ use Rattle.operators.specs.declared.Kind.{Kind}
 use Rattle.operators.specs.declared.Kind.the-variants.{Numeric, Bitmask}
 use Rattle.operators.specs.Ops.{Op}
 use Rattle.satisfying.specs.declared.Test.{Test}
-use Rattle.satisfying.specs.declared.Data.{Data}
-use Rattle.satisfying.specs.declared.Data.the-variants.{Absent, One, Either}
 
 -- ---- one operator
 
@@ -80,14 +78,3 @@ any p (x ∷ xs) = p x || any p xs
 -- "and binds tighter than OR"
 unfoldable pub listMatches : (Op → Bool) → List Op → Bool
 listMatches truth ops = any (all truth) (groups ops)
-
--- ---- some numbers
-
--- "An absent field never matches"; "Port (type 4) matches if either port satisfies the whole list"
-abbrev pub numbersOf : Data → List ℕ
-numbersOf Absent = []
-numbersOf (One n) = n ∷ []
-numbersOf (Either a b) = a ∷ b ∷ []
-
-unfoldable pub dataMatch : Test → Data → List Op → Bool
-dataMatch test numbers ops = any (λ n. listMatches (truthOf test n) ops) (numbersOf numbers)

@@ -5,20 +5,13 @@ ghost use mathlib.Core.Path.{_≡_};
 ghost use Prim.Native.Nat.{_+_, _≤_};
 ghost use lib.ListN.{length};
 ghost use Rattle.operators.specs.Ops.{op, opsIn};
-ghost use Rattle.satisfying.specs.Lists.{compared, met, masked, truthOf, listMatches, dataMatch};
+ghost use Rattle.satisfying.specs.Lists.{compared, met, masked, truthOf, listMatches};
 use operators::Kind;
 
 // How a list is put to a number: by comparisons or by masks, and in which bits an operator's value counts.
 pub struct Test {
     pub kind: Kind,
     pub bits: u64,
-}
-
-// The numbers of a packet that a list is put to: none, one, or two of which either will do.
-pub enum Data {
-    Absent,
-    One(u64),
-    Either(u64, u64),
 }
 
 // 0x04 less, 0x02 greater, 0x01 equal: the OR of those that are set.
@@ -66,7 +59,7 @@ fn truth(test: Test, octet: u8, value: u64, datum: u64) -> bool
 }
 
 // Whether a number satisfies the list of count operators from a place on. The first group that is true answers. No entry point.
-fn list_matches(
+pub fn list_matches(
     test: Test,
     values: &[u64],
     octets: &[u8],
@@ -94,29 +87,4 @@ fn list_matches(
         i += 1;
     }
     group
-}
-
-// Whether one of some numbers does. No entry point.
-pub fn data_match(
-    test: Test,
-    numbers: Data,
-    values: &[u64],
-    octets: &[u8],
-    at: usize,
-    count: usize,
-) -> bool
-    requires values { ⌜ at + count ≤ length (now values) ⌝ }
-    requires octets { ⌜ at + count ≤ length (now octets) ⌝ }
-    ensures { λ r. ⌜ r ≡ dataMatch test numbers (opsIn (now (values .entry)) (now (octets .entry)) at count) ⌝ }
-{
-    match numbers {
-        Data::Absent => false,
-        Data::One(n) => list_matches(test, values, octets, at, count, n),
-        Data::Either(a, b) => {
-            if list_matches(test, values, octets, at, count, a) {
-                return true;
-            }
-            list_matches(test, values, octets, at, count, b)
-        }
-    }
 }

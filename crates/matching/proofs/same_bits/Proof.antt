@@ -1,4 +1,4 @@
--- `matching::same_bits` meets its contract. Both addresses moved alike compare as their bits do: `by-moves`.
+-- `matching::same_bits` meets its contract. What differs, moved to the front, is nothing if the bits there are the same: `by-moves`.
 use mathlib.Core.Path.{_∙_}
 use native.Mathlib.Omega.{arith}
 use borrow.Author.Needs.{needs}
@@ -22,17 +22,17 @@ less-requires-3 c κs = search needs
 cast-up : tie.Need-cast-up
 cast-up c = search needs
 
+apart-requires : tie.Need-apart-requires
+apart-requires c κs = search needs
+
 moved-requires : tie.Need-moved-requires
 moved-requires c κs = search needs
-
-moved-requires-2 : tie.Need-moved-requires-2
-moved-requires-2 c κs = search needs
 
 same-requires : tie.Need-same-requires
 same-requires c κs = search needs
 
 returns : tie.Need-returns
-returns c = let l = c .before .before .before in let s = l .before .before .before in let a = s .args in let g = s .good .1 .1 .1 in c .same .ensures ∙ by-moves (a .width) (a .offset) (a .length) _ _ _ _ _ _ _ (wide-lt (a .a .high) (a .a .low) (omega (arith, g .0)) (omega (arith, g .0))) (wide-lt (a .b .high) (a .b .low) (omega (arith, g .1 .0)) (omega (arith, g .1 .0))) (l .before .before .less .ensures) (l .before .less2 .ensures) (l .less3 .ensures) (c .before .before .moved .ensures) (c .before .moved2 .ensures)
+returns c = let m = c .before in let d = m .before in let l = d .before in let s = l .before .before .before in let a = s .args in let g = s .good .1 .1 .1 in c .same .ensures ∙ by-moves (a .width) (a .offset) (a .length) _ _ _ _ _ _ _ (wide-lt (a .a .high) (a .a .low) (omega (arith, g .0)) (omega (arith, g .0))) (wide-lt (a .b .high) (a .b .low) (omega (arith, g .1 .0)) (omega (arith, g .1 .0))) (d .apart .ensures) (l .before .before .less .ensures) (l .before .less2 .ensures) (l .less3 .ensures) (m .moved .ensures)
 
 pub same-bits-spec : {M : Type 1} → statement M
 same-bits-spec =
@@ -43,7 +43,7 @@ same-bits-spec =
     less-requires-2
     less-requires-3
     cast-up
+    apart-requires
     moved-requires
-    moved-requires-2
     same-requires
     returns)
