@@ -1,5 +1,4 @@
--- The ways that one component goes, over plain lists: one law for each return of `component_at` and of the functions that find a prefix's
--- end.
+-- The ways that one component goes, over plain lists: one law for each return of `component_at`.
 use Prim.Native.Nat.{ℕ, _+_, _-_, _≤_, _<_}
 use mathlib.Core.Path.{_≡_, refl, sym, _∙_, ap}
 use mathlib.Core.List.{List, [], _∷_}
@@ -10,19 +9,14 @@ use Rattle.choices.specs.declared.Reading.{Reading}
 use Rattle.operators.specs.declared.Kind.{Kind}
 use Rattle.choices.specs.Choices.{lastType}
 use Rattle.operators.specs.Ops.{kindOf}
-use Rattle.rules.specs.declared.NetworkPrefix.{NetworkPrefix}
-use Rattle.prefixes.specs.Prefixes.{PrefixAt, octetsAt}
+use Rattle.prefixes.specs.declared.Extent.{Extent}
+use Rattle.prefixes.specs.Prefixes.{extentAt, prefixOn, prefixAt}
+use Rattle.prefixes.proofs.Laws.{prefix-by}
 use Rattle.lists.specs.declared.Tally.{Tally}
 use Rattle.lists.specs.Lists.{listAt, opsAt, recordedOps}
 use Rattle.lists.proofs.Ends.{list-counts}
 use Rattle.lists.proofs.Records.{recorded-length}
-use Rattle.walk.specs.Walks.{prefixAt, prefixPiece, listPiece, typedAt, componentAt, Sight, sight, seen, ended}
-
--- the octets of a prefix are there
-pub octets-there : (s : List ℕ) (from K : ℕ) (make : ℕ → NetworkPrefix) (R : Answer PrefixAt) → R ≡ octetsAt s from K make → (k : ℕ) → k ≡ K → k ≤ length s - from
-    → accepts (sight 0 (from + k)) ≡ ended R
-unfolding octetsAt
-octets-there s from K make R is k e l = sym (ap ended is ∙ rw (sym e) (simp (le-ltb _ _ l)))
+use Rattle.walk.specs.Walks.{prefixPiece, listPiece, typedAt, componentAt, Sight, sight, seen}
 
 module _ (r : Reading) (s : List ℕ) (at previous start : ℕ) where
   pub found-missing : length s ≤ at → componentAt r s at previous start ≡ refuses 1 []
@@ -53,9 +47,13 @@ module _ (r : Reading) (t : ℕ) (s : List ℕ) (at start : ℕ) where
   typed-list h = simp (lt-leb _ _ h)
 
 -- what is seen of a prefix and of a list
-pub seen-prefix : (t : ℕ) (a : Answer PrefixAt) → seen (prefixPiece t a) ≡ ended a
-seen-prefix t (accepts p) = refl
-seen-prefix t (declines f) = refl
+abbrev pub extended : Answer Extent → Answer Sight
+extended (accepts e) = accepts (sight 0 (e .next .at))
+extended (declines f) = declines f
+
+seen-prefix : (r : Reading) (s : List ℕ) (t : ℕ) (a : Answer Extent) → seen (prefixPiece t (prefixOn r s a)) ≡ extended a
+seen-prefix r s t (accepts e) = refl
+seen-prefix r s t (declines f) = refl
 
 abbrev pub measured : Answer Tally → Answer Sight
 measured (accepts l) = accepts (sight (l .count) (l .next .at))
@@ -72,9 +70,10 @@ seen-list r k t s at start (declines f) e = refl
 
 -- a component, seen
 module _ (r : Reading) (s : List ℕ) (at previous start : ℕ) (h : at < length s) (k : previous < getD s at 0) (l : getD s at 0 ≤ lastType r) where
-  pub prefix-seen : getD s at 0 ≤ 2 → {a : Answer Sight} → a ≡ ended (prefixAt r s (at + 1)) → a ≡ seen (componentAt r s at previous start)
-  prefix-seen m e =
-      e ∙ sym (ap seen (found-typed r s at previous start h k l ∙ typed-prefix r (getD s at 0) s (at + 1) start m) ∙ seen-prefix (getD s at 0) (prefixAt r s (at + 1)))
+  pub prefix-seen : getD s at 0 ≤ 2 → {a : Answer Extent} → a ≡ extentAt r s (at + 1) → extended a ≡ seen (componentAt r s at previous start)
+  prefix-seen m {a} e =
+      sym (ap seen (found-typed r s at previous start h k l ∙ typed-prefix r (getD s at 0) s (at + 1) start m ∙ ap (prefixPiece (getD s at 0)) (prefix-by r s (at + 1) (sym e)))
+      ∙ seen-prefix r s (getD s at 0) a)
 
   pub list-seen : 2 < getD s at 0 → {kind : Kind} → kind ≡ kindOf (getD s at 0) → {a : Answer Tally} → a ≡ listAt r kind s (at + 1)
       → measured a ≡ seen (componentAt r s at previous start)

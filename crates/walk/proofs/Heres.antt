@@ -14,24 +14,19 @@ use Rattle.choices.specs.declared.Reading.the-variants.{Plain, Ipv4, Ipv6}
 use Rattle.operators.specs.declared.Kind.{Kind}
 use Rattle.choices.specs.Choices.{lastType}
 use Rattle.operators.specs.Ops.{kindOf}
-use Rattle.prefixes.specs.Prefixes.{PrefixAt}
-use Rattle.prefixes.proofs.Accepted.{plain-next, ipv4-next, ipv6-next}
+use Rattle.prefixes.specs.declared.PrefixAt.{PrefixAt}
+use Rattle.prefixes.specs.Prefixes.{prefixAt}
+use Rattle.prefixes.proofs.Laws.{prefix-next}
 use Rattle.lists.specs.declared.Tally.{Tally}
 use Rattle.lists.specs.Lists.{listAt, opsAt, recordedOps}
 use Rattle.lists.proofs.Ends.{list-ends}
-use Rattle.walk.specs.Walks.{prefixAt, prefixPiece, listPiece, typedAt, Piece, componentAt, Sight, sight, seen}
+use Rattle.walk.specs.Walks.{prefixPiece, listPiece, typedAt, Piece, componentAt, Sight, sight, seen}
 use Rattle.walk.proofs.Founds.{found-missing, found-order, found-type, found-typed, typed-prefix, typed-list, recorded-counts}
 
 pub last-most : (r : Reading) → lastType r ≤ 13
 last-most Plain = omega arith
 last-most Ipv4 = omega arith
 last-most Ipv6 = omega arith
-
--- a prefix ends past its place and within the octets
-pub prefix-next : (r : Reading) (s : List ℕ) (at : ℕ) (p : PrefixAt) → prefixAt r s at ≡ accepts p → (at < p .next) × (p .next ≤ length s)
-prefix-next Plain s at p e = plain-next s at p e
-prefix-next Ipv4 s at p e = ipv4-next s at p e
-prefix-next Ipv6 s at p e = ipv6-next s at p e
 
 -- where a piece ends, and how many operators it has
 abbrev Ends : List ℕ → ℕ → Piece → Type 0
@@ -47,7 +42,7 @@ taken : {p q : Piece} → accepts p ≡ accepts q → p ≡ q
 taken e = cc
 
 by-prefix : (r : Reading) (t : ℕ) (s : List ℕ) (at : ℕ) {q : Piece} (a : Answer PrefixAt) → prefixAt r s at ≡ a → prefixPiece t a ≡ accepts q → Ends s at q
-by-prefix r t s at (accepts p) i e = let h = prefix-next r s at p i in ends-are s at 0 (p .next) (taken e) refl refl (omega arith) (h .1)
+by-prefix r t s at (accepts p) i e = let h = prefix-next r s at i in ends-are s at 0 (p .next .at) (taken e) refl refl (omega arith) (h .1)
 by-prefix r t s at (declines f) i e = never e
 
 by-list : (r : Reading) (k : Kind) (t : ℕ) (s : List ℕ) (at start : ℕ) {q : Piece} (a : Answer Tally) → listAt r k s at ≡ a

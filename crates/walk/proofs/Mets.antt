@@ -14,11 +14,12 @@ use Rattle.choices.specs.declared.Reading.the-variants.{Plain, Ipv4, Ipv6}
 use Rattle.operators.specs.declared.Kind.{Kind}
 use Rattle.choices.specs.Choices.{lastType, refusedIn}
 use Rattle.operators.specs.Ops.{kindOf, Op}
-use Rattle.prefixes.specs.Prefixes.{PrefixAt, octetsOf, octetsAt, boundedAt, plainPrefix, ipv4Prefix, ipv6Prefix, offsetFits, plainAt, ipv4At, ipv6At}
-use Rattle.rules.specs.declared.NetworkPrefix.{NetworkPrefix}
+use Rattle.prefixes.specs.declared.PrefixAt.{PrefixAt}
+use Rattle.prefixes.specs.Prefixes.{prefixAt}
+use Rattle.prefixes.proofs.Laws.{prefix-ways}
 use Rattle.lists.specs.declared.Tally.{Tally}
 use Rattle.lists.specs.Lists.{tally, Step, operator, missing, stepAt, turn as listTurn, listFrom, listAt, opsAt, recordedOps}
-use Rattle.walk.specs.Walks.{prefixAt, Piece, prefixPiece, listPiece, typedAt, componentAt, Body, body, joined, turn, walkFrom, walkAt}
+use Rattle.walk.specs.Walks.{Piece, prefixPiece, listPiece, typedAt, componentAt, Body, body, joined, turn, walkFrom, walkAt}
 
 -- the refusals that a walk may meet
 abbrev pub walkMeets : Reading → ℕ → Bool
@@ -48,30 +49,8 @@ module _ (r : Reading) where
   four : walkMeets r 4 ≡ true
   four = early r 4 refl refl
 
-  met-octets : (s : List ℕ) (from k : ℕ) (make : ℕ → NetworkPrefix) → Met (walkMeets r) (octetsAt s from k make)
-  unfolding octetsAt
-  met-octets s from k make = by-test (ltb (length s - from) k) (λ t. rw t one) (λ f. rw f tt)
-
-  met-bounded : (most : ℕ) (make : ℕ → ℕ → NetworkPrefix) (s : List ℕ) (at : ℕ) → Met (walkMeets r) (boundedAt most make s at)
-  unfolding boundedAt
-  met-bounded most make s at =
-      by-test (leb (length s) at) (λ t. rw t one)
-      (λ f. by-test (ltb most (getD s at 0)) (λ t. rw (f, t) four) (λ g. rw (f, g) (met-octets s (at + 1) (octetsOf (getD s at 0)) (make (getD s at 0)))))
-
-  met-offset : (s : List ℕ) (at : ℕ) → Met (walkMeets r) (ipv6At s at)
-  unfolding ipv6At
-  met-offset s at =
-      let len = getD s at 0 in
-      let off = getD s (at + 1) 0 in
-      by-test (leb (length s) at) (λ t. rw t one)
-      (λ f. by-test (leb (length s) (at + 1)) (λ t. rw (f, t) one)
-      (λ g. by-test (offsetFits len off) (λ t. rw (f, g, t) (met-octets s (at + 2) (octetsOf (len - off)) (ipv6Prefix len off))) (λ h. rw (f, g, h) four)))
-
-met-prefix : (r : Reading) (s : List ℕ) (at : ℕ) → Met (walkMeets r) (prefixAt r s at)
-unfolding plainAt ipv4At
-met-prefix Plain s at = met-bounded Plain 128 plainPrefix s at
-met-prefix Ipv4 s at = met-bounded Ipv4 32 ipv4Prefix s at
-met-prefix Ipv6 s at = met-offset Ipv6 s at
+  met-prefix : (s : List ℕ) (at : ℕ) → Met (walkMeets r) (prefixAt r s at)
+  met-prefix s at = prefix-ways r s at (λ (a : Answer PrefixAt). Met (walkMeets r) a) one four (λ t. tt)
 
 -- 5 is the plain reading's alone
 five : (r : Reading) (k : Kind) (x : ℕ) → refusedIn r k x ≡ true → walkMeets r 5 ≡ true

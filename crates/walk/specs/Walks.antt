@@ -8,24 +8,18 @@ use Rattle.ground.specs.Answers.{Answer, accepts, refuses, declines}
 use Rattle.ground.specs.Picks.{pick}
 use Rattle.refusals.specs.Refusals.{refusal}
 use Rattle.choices.specs.declared.Reading.{Reading}
-use Rattle.choices.specs.declared.Reading.the-variants.{Plain, Ipv4, Ipv6}
 use Rattle.choices.specs.Choices.{lastType}
 use Rattle.operators.specs.Ops.{kindOf, Op}
 use Rattle.rules.specs.declared.FlowSpecComponent.{FlowSpecComponent}
 use Rattle.rules.specs.Components.{prefixOf, listOf}
-use Rattle.prefixes.specs.Prefixes.{PrefixAt, plainAt, ipv4At, ipv6At}
+use Rattle.prefixes.specs.declared.PrefixAt.{PrefixAt}
+use Rattle.prefixes.specs.Prefixes.{prefixAt}
 use Rattle.lists.specs.declared.Tally.{Tally}
 use Rattle.lists.specs.Lists.{listAt, opsAt, recordedOps}
 use Rattle.walk.specs.declared.Found.{Found}
 use Rattle.walk.specs.declared.Found.the-variants.{Component, Refused}
 use Rattle.walk.specs.declared.Walked.{Walked}
 use Rattle.walk.specs.declared.Walked.the-variants.{Accepted, Refused as NotAccepted}
-
--- the sixth choice: how a prefix is read
-abbrev pub prefixAt : Reading → List ℕ → ℕ → Answer PrefixAt
-prefixAt Plain s at = plainAt s at
-prefixAt Ipv4 s at = ipv4At s at
-prefixAt Ipv6 s at = ipv6At s at
 
 -- a component, the operators that are recorded of it, and the place after it
 pub record Piece : Type 0 where
@@ -37,7 +31,7 @@ abbrev pub piece : FlowSpecComponent → List Op → ℕ → Piece
 piece c os next = record { component = c; operators = os; next = next }
 
 abbrev pub prefixPiece : ℕ → Answer PrefixAt → Answer Piece
-prefixPiece type (accepts p) = accepts (piece (prefixOf type (p .prefix)) [] (p .next))
+prefixPiece type (accepts p) = accepts (piece (prefixOf type (p .prefix)) [] (p .next .at))
 prefixPiece type (declines f) = declines f
 
 -- a list's operators go to the places from `start` on
@@ -101,10 +95,6 @@ toldFound (Refused f) = refusal f
 abbrev pub seen : Answer Piece → Answer Sight
 seen (accepts p) = accepts (sight (length (p .operators)) (p .next))
 seen (declines f) = declines f
-
-abbrev pub ended : Answer PrefixAt → Answer Sight
-ended (accepts p) = accepts (sight 0 (p .next))
-ended (declines f) = declines f
 
 -- and of all of them: how many operators they have
 abbrev pub toldWalk : Walked → Answer ℕ

@@ -1,6 +1,7 @@
 -- `walk::component_at` meets its contract: each return is one of the ways that a component goes.
 use mathlib.Core.Path.{sym, _∙_, ap}
 use native.Mathlib.Omega.{arith}
+use Rattle.prefixes.specs.Prefixes.{toldExtent}
 use Rattle.lists.specs.Lists.{toldList}
 use Rattle.walk.specs.Walks.{seen}
 use Rattle.walk.proofs.Founds.{found-missing, found-order, found-type, prefix-seen, list-seen}
@@ -9,10 +10,10 @@ use Rattle.walk.proofs.component_at.Statement.{statement}
 use Rattle.walk.proofs.component_at.Tie as tie
 use Rattle.walk.proofs.component_at.Reads as reads
 use Rattle.walk.proofs.component_at.Lts as lts
-use Rattle.operators.proofs.kind_of.Reads as kind-of-reads
 use Rattle.choices.proofs.last_type.Reads as last-type-reads
 use Rattle.lists.proofs.measure.Reads as measure-reads
-use Rattle.walk.proofs.prefix_end.Reads as prefix-end-reads
+use Rattle.operators.proofs.kind_of.Reads as kind-of-reads
+use Rattle.prefixes.proofs.extent_at.Reads as extent-at-reads
 
 returns : tie.Need-returns
 returns c = λ start. sym (ap seen (found-missing _ _ _ _ start (c .if1 .taken)))
@@ -32,18 +33,35 @@ returns-3 c =
     let k = c .before .before in
     sym (ap seen (found-type _ _ _ _ start (k .before .before .if1 .left) (k .if2 .left) (omega (arith, c .before .last-type .ensures, c .if3 .taken))))
 
-add-t11 : tie.Need-add-t11
-add-t11 c = search needs
+add-t14 : tie.Need-add-t14
+add-t14 c = search needs
 
-prefix-end-requires : tie.Need-prefix-end-requires
-prefix-end-requires c κs = search needs
+extent-at-requires : tie.Need-extent-at-requires
+extent-at-requires c κs = search needs
+
+enum-known-extent : tie.Need-enum-known-extent
+enum-known-extent c = search needs
+
+enum-known-fault : tie.Need-enum-known-fault
+enum-known-fault c = search needs
 
 returns-4 : tie.Need-returns-4
 returns-4 c =
     λ start.
-    let e = c .before .before in
+    let x = c .before .before in
+    let a = x .before .before in
+    let e = a .before .before in
     let k = e .before .before in
-    prefix-seen _ _ _ _ start (k .before .before .if1 .left) (k .if2 .left) (omega (arith, e .before .last-type .ensures, e .if3 .left)) (c .before .if4 .taken) (c .prefix-end .ensures)
+    prefix-seen _ _ _ _ start (k .before .before .if1 .left) (k .if2 .left) (omega (arith, e .before .last-type .ensures, e .if3 .left)) (a .before .if4 .taken) (sym (ap toldExtent (x .extent .given .1)) ∙ a .extent-at .ensures)
+
+returns-5 : tie.Need-returns-5
+returns-5 c =
+    λ start.
+    let x = c .before in
+    let a = x .before .before in
+    let e = a .before .before in
+    let k = e .before .before in
+    prefix-seen _ _ _ _ start (k .before .before .if1 .left) (k .if2 .left) (omega (arith, e .before .last-type .ensures, e .if3 .left)) (a .before .if4 .taken) (sym (ap toldExtent (x .fault .given .1)) ∙ a .extent-at .ensures)
 
 kind-of-requires : tie.Need-kind-of-requires
 kind-of-requires c κs = search needs
@@ -54,16 +72,8 @@ measure-requires c κs = search needs
 enum-known-count : tie.Need-enum-known-count
 enum-known-count c = search needs
 
-enum-known-fault : tie.Need-enum-known-fault
-enum-known-fault c = search needs
-
-returns-5 : tie.Need-returns-5
-returns-5 c =
-    λ start.
-    let m = c .before .before .before in
-    let e = m .before .before .before in
-    let k = e .before .before in
-    list-seen _ _ _ _ start (k .before .before .if1 .left) (k .if2 .left) (omega (arith, e .before .last-type .ensures, e .if3 .left)) (m .before .before .if4 .left) (m .before .kind-of .ensures) (sym (ap toldList (c .before .count .given .1)) ∙ m .measure .ensures)
+enum-known-fault-2 : tie.Need-enum-known-fault-2
+enum-known-fault-2 c = search needs
 
 returns-6 : tie.Need-returns-6
 returns-6 c =
@@ -71,7 +81,15 @@ returns-6 c =
     let m = c .before .before .before in
     let e = m .before .before .before in
     let k = e .before .before in
-    list-seen _ _ _ _ start (k .before .before .if1 .left) (k .if2 .left) (omega (arith, e .before .last-type .ensures, e .if3 .left)) (m .before .before .if4 .left) (m .before .kind-of .ensures) (sym (ap toldList (c .before .fault .given .1)) ∙ m .measure .ensures)
+    list-seen _ _ _ _ start (k .before .before .if1 .left) (k .if2 .left) (omega (arith, e .before .last-type .ensures, e .if3 .left)) (m .before .before .if4 .left) (m .before .kind-of .ensures) (sym (ap toldList (c .before .count .given .1)) ∙ m .measure .ensures)
+
+returns-7 : tie.Need-returns-7
+returns-7 c =
+    λ start.
+    let m = c .before .before .before in
+    let e = m .before .before .before in
+    let k = e .before .before in
+    list-seen _ _ _ _ start (k .before .before .if1 .left) (k .if2 .left) (omega (arith, e .before .last-type .ensures, e .if3 .left)) (m .before .before .if4 .left) (m .before .kind-of .ensures) (sym (ap toldList (c .before .fault2 .given .1)) ∙ m .measure .ensures)
 
 pub component-at-spec : {M : Type 1} → statement M
 component-at-spec =
@@ -82,12 +100,15 @@ component-at-spec =
     returns-2
     last-type-requires
     returns-3
-    add-t11
-    prefix-end-requires
+    add-t14
+    extent-at-requires
+    enum-known-extent
+    enum-known-fault
     returns-4
+    returns-5
     kind-of-requires
     measure-requires
     enum-known-count
-    enum-known-fault
-    returns-5
-    returns-6)
+    enum-known-fault-2
+    returns-6
+    returns-7)
