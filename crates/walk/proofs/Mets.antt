@@ -1,5 +1,5 @@
 -- Which refusals a walk meets, by induction over it: 1 to 4, and in the plain reading 5. So none meets 6, and a standard one no 5.
-use Prim.Native.Nat.{ℕ, zero, suc, _+_, _-_}
+use Prim.Native.Nat.{ℕ, zero, suc, _+_}
 use mathlib.Core.Path.{_≡_, refl}
 use mathlib.Core.Bool.{Bool, true, false}
 use mathlib.Core.List.{List, [], _∷_}

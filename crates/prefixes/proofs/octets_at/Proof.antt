@@ -1,5 +1,4 @@
 -- `prefixes::octets_at` meets its contract: the octets are there, or one is missing.
-use Prim.Native.Nat.{_+_, _-_}
 use mathlib.Core.Path.{sym, ap, _∙_}
 use native.Mathlib.Omega.{arith}
 use Rattle.ground.specs.Answers.{accepts}
