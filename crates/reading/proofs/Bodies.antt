@@ -7,13 +7,12 @@ use mathlib.Core.List.{List, [], _∷_}
 use mathlib.Core.Logic.{⊎-elim}
 use native.Mathlib.Nat.{lt-of-le-of-lt, div-mul-le-self}
 use native.Mathlib.Omega.{arith}
-use borrow.Author.Tests.{ltb-false, leb-true, le-leb, lt-leb}
-use lib.Dec.{ltb, leb, eqb}
-use lib.ListN.{length, getD, take, drop}
+use borrow.Author.Tests.{leb-true, le-leb, lt-leb}
+use lib.Dec.{leb, eqb}
+use lib.ListN.{length, getD}
 use Rattle.ground.proofs.Answers.{never}
 use Rattle.ground.specs.Answers.{Answer, accepts, declines}
 use Rattle.ground.proofs.Cases.{by-test, lt-or-le}
-use Rattle.octets.specs.Spell.{valueOf}
 use Rattle.choices.specs.declared.Reading.{Reading}
 use Rattle.choices.specs.declared.Reading.the-variants.{Plain, Ipv4, Ipv6}
 use Rattle.rules.specs.declared.NetworkPrefix.{NetworkPrefix}
@@ -23,44 +22,19 @@ use Rattle.rules.specs.declared.Span.{Span}
 use Rattle.rules.specs.Components.{prefixOf, listOf, countsAs, prefixCounts, holdsOne}
 use Rattle.rules.proofs.Types.{each-list}
 use Rattle.stored.proofs.Inverse.{FitPrefix, Fit, FitAll}
-use Rattle.prefixes.specs.Prefixes.{PrefixAt, octetsOf, octetsAt, boundedAt, frontAddress, plainPrefix, ipv4Prefix, ipv6Prefix, offsetFits, plainAt, ipv4At}
+use Rattle.prefixes.specs.declared.PrefixAt.{PrefixAt}
+use Rattle.prefixes.specs.Prefixes.{octetsOf, offsetIn, namedAt, frontAddress, plainPrefix, ipv4Prefix, madeIn, spelledAt, prefixAt}
 use Rattle.prefixes.proofs.Addresses.{front-lt}
-use Rattle.prefixes.proofs.Readings.{bounded-missing, bounded-over, bounded-octets, ipv6-missing, ipv6-no-offset, ipv6-over, ipv6-octets, fits-le}
-use Rattle.prefixes.proofs.Accepted.{Octets, value-lt}
+use Rattle.prefixes.proofs.Laws.{Ranged, taken-ranged, prefix-taken, prefix-is}
+use Rattle.prefixes.proofs.Accepted.{Octets, taken-value, front-value}
 use Rattle.lists.specs.declared.Tally.{Tally}
 use Rattle.lists.specs.Lists.{listAt, opsAt, recordedOps}
 use Rattle.operators.specs.Ops.{kindOf, Op}
-use Rattle.walk.specs.Walks.{prefixAt, Piece, prefixPiece, listPiece, componentAt, Body, joined, turn, walkFrom, walkAt}
+use Rattle.walk.specs.Walks.{Piece, prefixPiece, listPiece, componentAt, Body, joined, turn, walkFrom, walkAt}
 use Rattle.walk.proofs.Founds.{typed-prefix, typed-list}
 use Rattle.walk.proofs.Heres.{Here, here}
 
 -- the prefix of each reading fits its widths
-octets-made : (s : List ℕ) (from k : ℕ) (make : ℕ → NetworkPrefix) (q : PrefixAt) → from ≤ length s → octetsAt s from k make ≡ accepts q
-    → (from + k ≤ length s) × (make (valueOf (take k (drop from s))) ≡ q .prefix)
-unfolding octetsAt
-octets-made s from k make q l e =
-    by-test (ltb (length s - from) k)
-    (λ t. never (rw t at e))
-    (λ f. let g : k ≤ length s - from = ltb-false _ _ f in let m = ap prefix-in (rw f at e) in (omega arith, m))
-  where
-    prefix-in : Answer PrefixAt → NetworkPrefix
-    prefix-in (accepts p) = p .prefix
-    prefix-in (declines f) = V4 0 0
-
-bounded-made : (most : ℕ) (make : ℕ → ℕ → NetworkPrefix) (s : List ℕ) (at : ℕ) (q : PrefixAt) → Octets s
-    → ((len v : ℕ) → len ≤ most → v < 2 ^ (8 * octetsOf len) → FitPrefix (make len v)) → boundedAt most make s at ≡ accepts q → FitPrefix (q .prefix)
-bounded-made most make s at q o fit e =
-    ⊎-elim
-    (λ h. ⊎-elim
-    (λ k. never (bounded-over most make s at h k ∙ e))
-    (λ k.
-    let n = octetsOf (getD s at 0) in
-    let m = octets-made s (at + 1) n (make (getD s at 0)) q (omega arith) (sym (bounded-octets most make s at h k) ∙ e) in
-    subst FitPrefix (m .1) (fit (getD s at 0) (valueOf (take n (drop (at + 1) s))) k (value-lt s (at + 1) n o (m .0))))
-    (lt-or-le most (getD s at 0)))
-    (λ h. never (bounded-missing most make s at h ∙ e))
-    (lt-or-le at (length s))
-
 plain-fits : (len v : ℕ) → len ≤ 128 → v < 2 ^ (8 * octetsOf len) → FitPrefix (plainPrefix len v)
 plain-fits len v h b =
     by-test (leb len 32)
@@ -72,25 +46,16 @@ ipv4-fits len v h b =
     let k : 8 * octetsOf len ≤ 32 = omega arith in
     (omega arith, lt-of-le-of-lt (div-mul-le-self (frontAddress 32 len v) (2 ^ (32 - len))) (front-lt 32 len v k b))
 
+made-fits : (r : Reading) (len off v : ℕ) → Ranged r len off → v < 2 ^ (8 * octetsOf (len - off)) → FitPrefix (madeIn r len off v)
+made-fits Plain len off v h b = plain-fits len v (h .0) (front-value len v (subst (λ (o : ℕ). v < 2 ^ (8 * octetsOf (len - o))) (h .1) b))
+made-fits Ipv4 len off v h b = ipv4-fits len v (h .0) (front-value len v (subst (λ (o : ℕ). v < 2 ^ (8 * octetsOf (len - o))) (h .1) b))
+made-fits Ipv6 len off v h b = (omega arith, omega arith)
+
 prefix-fits : (r : Reading) (s : List ℕ) (at : ℕ) (q : PrefixAt) → Octets s → prefixAt r s at ≡ accepts q → FitPrefix (q .prefix)
-unfolding plainAt ipv4At
-prefix-fits Plain s at q o e = bounded-made 128 plainPrefix s at q o plain-fits e
-prefix-fits Ipv4 s at q o e = bounded-made 32 ipv4Prefix s at q o ipv4-fits e
-prefix-fits Ipv6 s at q o e =
-    let len = getD s at 0 in
-    let off = getD s (at + 1) 0 in
-    ⊎-elim
-    (λ h. ⊎-elim
-    (λ k. by-test (offsetFits len off)
-    (λ y.
-    let m = octets-made s (at + 1 + 1) (octetsOf (len - off)) (ipv6Prefix len off) q (omega arith) (sym (ipv6-octets s at h k y) ∙ e) in
-    let f = fits-le len off y in
-    subst FitPrefix (m .1) (omega arith, omega arith))
-    (λ n. never (ipv6-over s at h k n ∙ e)))
-    (λ k. never (ipv6-no-offset s at h k ∙ e))
-    (lt-or-le (at + 1) (length s)))
-    (λ h. never (ipv6-missing s at h ∙ e))
-    (lt-or-le at (length s))
+prefix-fits r s at q o e =
+    let t = prefix-taken r s at e in
+    subst (λ (p : PrefixAt). FitPrefix (p .prefix)) (sym (prefix-is r s at e))
+    (made-fits r (getD s at 0) (offsetIn r s at) (spelledAt s (namedAt r s at)) (taken-ranged r s at t) (taken-value r s at o t))
 
 -- a component that fits, and is one
 abbrev Good : FlowSpecComponent → Type 0

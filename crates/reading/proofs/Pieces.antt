@@ -7,23 +7,24 @@ use mathlib.Core.List.{List, [], _∷_, map}
 use native.Mathlib.Omega.{arith}
 use lib.ListN.{length, getD}
 use lib.Seq.{sets}
-use Rattle.ground.specs.Answers.{Answer, accepts, refuses, declines}
+use Rattle.ground.specs.Answers.{Answer, accepts, declines}
 use Rattle.choices.specs.declared.Reading.{Reading}
 use Rattle.operators.specs.declared.Kind.{Kind}
 use Rattle.operators.specs.Ops.{kindOf, Op, octetOf, numberOf}
-use Rattle.rules.specs.declared.NetworkPrefix.{NetworkPrefix}
 use Rattle.rules.specs.declared.FlowSpecComponent.{FlowSpecComponent}
 use Rattle.rules.specs.Components.{prefixOf, listOf}
 use Rattle.stored.specs.declared.Quad.{Quad}
 use Rattle.stored.specs.Stored.{quadWords, componentWords}
 use Rattle.stored.proofs.Words.{list-quad}
-use Rattle.prefixes.specs.Prefixes.{PrefixAt, wholePrefix}
+use Rattle.prefixes.specs.declared.PrefixAt.{PrefixAt}
+use Rattle.prefixes.specs.Prefixes.{extentAt, prefixAt, isExtent}
+use Rattle.prefixes.proofs.Laws.{prefix-ways, taken-is}
 use Rattle.lists.specs.declared.Tally.{Tally}
 use Rattle.lists.specs.Lists.{listAt, opsAt, recordedOps, isAccepted, Accepted}
 use Rattle.lists.specs.Runs.{Room}
 use Rattle.lists.proofs.Records.{recorded-length}
 use Rattle.lists.proofs.Turns.{with-tally}
-use Rattle.walk.specs.Walks.{prefixAt, Piece, piece, prefixPiece, listPiece}
+use Rattle.walk.specs.Walks.{Piece, piece, prefixPiece, listPiece}
 use Rattle.walk.proofs.Founds.{typed-prefix, typed-list, recorded-counts}
 use Rattle.reading.specs.Parts.{isPiece, pieceIn, typedHere, Standing, pieceAt}
 
@@ -55,13 +56,15 @@ module _ (r : Reading) (s : List ℕ) (at start : ℕ) (h : Standing r s at star
     unfolding typedHere
     here-prefix = typed-prefix r (getD s at 0) s (at + 1) start o
 
-    pub no-refusal : {n : ℕ} {c : List ℕ} {A : Type 0} → refuses n c ≡ prefixAt r s (at + 1) → A
-    no-refusal e = false-true (ap (λ (a : Answer PrefixAt). isPiece (prefixPiece (getD s at 0) a)) e ∙ sym (ap isPiece here-prefix) ∙ h .accepted)
+    pub prefix-extent : isExtent (extentAt r s (at + 1)) ≡ true
+    prefix-extent =
+        prefix-ways r s (at + 1) (λ (a : Answer PrefixAt). isPiece (prefixPiece (getD s at 0) a) ≡ true → isExtent (extentAt r s (at + 1)) ≡ true)
+        false-true false-true (λ t e. taken-is r s (at + 1) t) (sym (ap isPiece here-prefix) ∙ h .accepted)
 
-    pub prefix-post : (ws vs os : List ℕ) (word : ℕ) {ws′ : List ℕ} {p : NetworkPrefix} {a : ℕ} {m : FlowSpecComponent} → accepts (wholePrefix p a) ≡ prefixAt r s (at + 1)
-        → m ≡ prefixOf (getD s at 0) p → ws′ ≡ sets ws word (componentWords m) → Post r s at start ws vs os word ws′ vs os a 0
-    prefix-post ws vs os word {p = p} {a = a} e i is =
-        post-of r s at start (piece (prefixOf (getD s at 0) p) [] a) (here-prefix ∙ ap (prefixPiece (getD s at 0)) (sym e)) ws vs os word
+    pub prefix-post : (ws vs os : List ℕ) (word : ℕ) {ws′ : List ℕ} {p : PrefixAt} {m : FlowSpecComponent} → prefixAt r s (at + 1) ≡ accepts p
+        → m ≡ prefixOf (getD s at 0) (p .prefix) → ws′ ≡ sets ws word (componentWords m) → Post r s at start ws vs os word ws′ vs os (p .next .at) 0
+    prefix-post ws vs os word {p = p} e i is =
+        post-of r s at start (piece (prefixOf (getD s at 0) (p .prefix)) [] (p .next .at)) (here-prefix ∙ ap (prefixPiece (getD s at 0)) e) ws vs os word
         (is ∙ ap (λ (x : FlowSpecComponent). sets ws word (componentWords x)) i) refl refl refl refl
 
   module _ (o : 2 < getD s at 0) {k : Kind} (i : k ≡ kindOf (getD s at 0)) where

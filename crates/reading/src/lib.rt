@@ -21,7 +21,6 @@ use lists::Tally;
 use octets::Cursor;
 use octets::Length;
 use octets::LengthRead;
-use prefixes::PrefixRead;
 use refusals::Fault;
 use refusals::FlowSpecError;
 use rules::FlowSpecNlri;
@@ -74,21 +73,14 @@ fn put_part(
     let kind = s[at];
     let from = at + 1;
     if kind <= 2 {
-        match walk::prefix_at(reading, s, Cursor { at: from }) {
-            PrefixRead::Whole { prefix, next } => {
-                stored::put_component(words, word, rules::prefix_of(kind, prefix));
-                return Tally {
-                    count: 0,
-                    next: next,
-                };
-            }
-            PrefixRead::Refused(_) => {
-                return Tally {
-                    count: 0,
-                    next: Cursor { at: from },
-                };
-            }
-        }
+        let read = prefixes::prefix_in(reading, s, Cursor { at: from });
+        let prefix = read.prefix;
+        let next = read.next;
+        stored::put_component(words, word, rules::prefix_of(kind, prefix));
+        return Tally {
+            count: 0,
+            next: next,
+        };
     }
     let t = lists::fill(
         s,

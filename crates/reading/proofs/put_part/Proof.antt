@@ -1,18 +1,16 @@
 -- `reading::put_part` meets its contract: what is stored is a prefix, by `prefix-post`, or a list, by `list-post`.
-use mathlib.Core.Path.{sym, _∙_, ap}
-use Rattle.prefixes.specs.Prefixes.{toldPrefix}
-use Rattle.reading.proofs.Pieces.{no-refusal, prefix-post, list-whole, list-room, list-post}
+use Rattle.reading.proofs.Pieces.{prefix-extent, prefix-post, list-whole, list-room, list-post}
 use borrow.Author.Needs.{needs}
 use Rattle.reading.proofs.put_part.Statement.{statement}
 use Rattle.reading.proofs.put_part.Tie as tie
 use Rattle.reading.proofs.put_part.Reads as reads
 use Rattle.reading.proofs.put_part.Lts as lts
-use Rattle.operators.proofs.kind_of.Reads as kind-of-reads
 use Rattle.lists.proofs.fill.Reads as fill-reads
+use Rattle.operators.proofs.kind_of.Reads as kind-of-reads
+use Rattle.prefixes.proofs.prefix_in.Reads as prefix-in-reads
 use Rattle.rules.proofs.prefix_of.Reads as prefix-of-reads
 use Rattle.stored.proofs.put_component.Reads as put-component-reads
 use Rattle.stored.proofs.put_words.Reads as put-words-reads
-use Rattle.walk.proofs.prefix_at.Reads as prefix-at-reads
 
 shared-slice-read-kind : tie.Need-shared-slice-read-kind
 shared-slice-read-kind c = search needs
@@ -20,11 +18,10 @@ shared-slice-read-kind c = search needs
 add-from : tie.Need-add-from
 add-from c = search needs
 
-prefix-at-requires : tie.Need-prefix-at-requires
-prefix-at-requires c κs = search needs
-
-enum-known-prefix : tie.Need-enum-known-prefix
-enum-known-prefix c = search needs
+prefix-in-requires : tie.Need-prefix-in-requires
+prefix-in-requires c κs =
+    let g = c .before .before .before .before .before .before in
+    prefix-extent (g .args .reading) (g .args .s .now) (g .args .at) (g .args .start) (g .pre .0) (c .if1 .taken)
 
 prefix-of-requires : tie.Need-prefix-of-requires
 prefix-of-requires c κs = search needs
@@ -39,20 +36,10 @@ returns : tie.Need-returns
 returns c =
     let u = c .before .before in
     let v = u .before in
-    let k = v .before .before .before in
-    let a = k .before .before in
-    let g = a .before .before .before .before .before .before .before in
-    prefix-post (g .args .reading) (g .args .s .now) (g .args .at) (g .args .start) (g .pre .0) (a .before .if1 .taken) (g .args .words .now) (g .args .values .now) (g .args .octets .now) (g .args .word)
-    (sym (ap toldPrefix (k .prefix .given .1)) ∙ a .prefix-at .ensures) (v .prefix-of .ensures) (u .put-component .ensures)
-
-enum-told : tie.Need-enum-told
-enum-told c = search needs
-
-returns-2 : tie.Need-returns-2
-returns-2 c =
-    let a = c .before .before in
-    let g = a .before .before .before .before .before .before .before in
-    no-refusal (g .args .reading) (g .args .s .now) (g .args .at) (g .args .start) (g .pre .0) (a .before .if1 .taken) (sym (ap toldPrefix (c .enum-told .given .1)) ∙ a .prefix-at .ensures)
+    let x = v .before .before .before in
+    let g = x .before .before .before .before .before .before .before in
+    prefix-post (g .args .reading) (g .args .s .now) (g .args .at) (g .args .start) (g .pre .0) (x .before .if1 .taken) (g .args .words .now) (g .args .values .now) (g .args .octets .now) (g .args .word)
+    (x .prefix-in .ensures) (v .prefix-of .ensures) (u .put-component .ensures)
 
 kind-of-requires : tie.Need-kind-of-requires
 kind-of-requires c κs = search needs
@@ -79,8 +66,8 @@ same-length-3 c = search needs
 same-length-4 : tie.Need-same-length-4
 same-length-4 c = search needs
 
-returns-3 : tie.Need-returns-3
-returns-3 c =
+returns-2 : tie.Need-returns-2
+returns-2 c =
     let u = c .before .before in
     let f = u .before .before .before .before .before .before in
     let q = f .before .before .before in
@@ -94,14 +81,11 @@ put-part-spec =
     (tie.spec
     shared-slice-read-kind
     add-from
-    prefix-at-requires
-    enum-known-prefix
+    prefix-in-requires
     prefix-of-requires
     put-component-requires
     same-length
     returns
-    enum-told
-    returns-2
     kind-of-requires
     fill-requires
     cast-put-words
@@ -109,4 +93,4 @@ put-part-spec =
     same-length-2
     same-length-3
     same-length-4
-    returns-3)
+    returns-2)
