@@ -21,7 +21,7 @@ use Rattle.octets.proofs.Spells.{grows}
 use Rattle.wide.specs.Numbers.{wide}
 use Rattle.wide.proofs.Halves.{num-wideOf}
 use Rattle.prefixes.specs.declared.PrefixAt.{PrefixAt}
-use Rattle.prefixes.specs.Prefixes.{octetsOf, offsetFits, fromIn, offsetIn, statedAt, frontAddress, offsetAddress, plainPrefix, ipv4Prefix, ipv6Prefix, spelledAt, prefixAt}
+use Rattle.prefixes.specs.Prefixes.{octetsOf, offsetFits, fromIn, offsetIn, namedAt, frontAddress, offsetAddress, plainPrefix, ipv4Prefix, ipv6Prefix, spelledAt, prefixAt}
 use Rattle.prefixes.specs.Forms.{inRange, validIn}
 use Rattle.prefixes.proofs.Addresses.{front-lt, offset-lt, none-first}
 use Rattle.prefixes.proofs.Laws.{fits-le, Taken, taken-ranged, prefix-taken, prefix-is}
@@ -53,7 +53,7 @@ value-lt s from k h l =
 
 -- so do those of a prefix that was accepted
 pub taken-value : (r : Reading) (s : List ℕ) (at : ℕ) → Octets s → Taken r s at
-    → spelledAt s (statedAt r s at) < 2 ^ (8 * octetsOf (getD s at 0 - offsetIn r s at))
+    → spelledAt s (namedAt r s at) < 2 ^ (8 * octetsOf (getD s at 0 - offsetIn r s at))
 taken-value r s at o t = value-lt s (fromIn r at) (octetsOf (getD s at 0 - offsetIn r s at)) o (t .within)
 
 -- where there is no offset
@@ -94,17 +94,17 @@ module _ (s : List ℕ) (at : ℕ) {p : PrefixAt} where
   plain-in-range e =
       let t = prefix-taken Plain s at e in
       ap (λ (x : PrefixAt). inRange (x .prefix)) (prefix-is Plain s at e)
-      ∙ plain-ranged (getD s at 0) (spelledAt s (statedAt Plain s at)) (taken-ranged Plain s at t .0)
+      ∙ plain-ranged (getD s at 0) (spelledAt s (namedAt Plain s at)) (taken-ranged Plain s at t .0)
 
   module _ (o : Octets s) where
     pub ipv4-valid : prefixAt Ipv4 s at ≡ accepts p → validIn 4 (p .prefix) ≡ true
     ipv4-valid e =
         let t = prefix-taken Ipv4 s at e in
         ap (λ (x : PrefixAt). validIn 4 (x .prefix)) (prefix-is Ipv4 s at e)
-        ∙ ipv4-clean (getD s at 0) (spelledAt s (statedAt Ipv4 s at)) (taken-ranged Ipv4 s at t .0) (front-value _ _ (taken-value Ipv4 s at o t))
+        ∙ ipv4-clean (getD s at 0) (spelledAt s (namedAt Ipv4 s at)) (taken-ranged Ipv4 s at t .0) (front-value _ _ (taken-value Ipv4 s at o t))
 
     pub ipv6-valid : prefixAt Ipv6 s at ≡ accepts p → validIn 6 (p .prefix) ≡ true
     ipv6-valid e =
         let t = prefix-taken Ipv6 s at e in
         ap (λ (x : PrefixAt). validIn 6 (x .prefix)) (prefix-is Ipv6 s at e)
-        ∙ ipv6-clean (getD s at 0) (getD s (at + 1) 0) (spelledAt s (statedAt Ipv6 s at)) (t .range) (taken-value Ipv6 s at o t)
+        ∙ ipv6-clean (getD s at 0) (getD s (at + 1) 0) (spelledAt s (namedAt Ipv6 s at)) (t .range) (taken-value Ipv6 s at o t)

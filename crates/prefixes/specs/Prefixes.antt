@@ -67,8 +67,8 @@ abbrev pub octetsAt : List ℕ → Extent → Answer Extent
 octetsAt s e = pick (ltb (length s) (e .next .at)) (refuses 1 []) (accepts e)
 
 -- what the octets at a place say, if they are there
-abbrev pub statedAt : Reading → List ℕ → ℕ → Extent
-statedAt reading s at = extentOf (getD s at 0) (offsetIn reading s at) (fromIn reading at)
+abbrev pub namedAt : Reading → List ℕ → ℕ → Extent
+namedAt reading s at = extentOf (getD s at 0) (offsetIn reading s at) (fromIn reading at)
 
 -- "Prefix: length octet, refused above 128, then ceil(length/8) octets, then done." "IPv4 prefix: length above 32 is InvalidPrefix. Then the
 -- octets." "IPv6 prefix: length octet, offset octet, then either both are 0 or offset < length < 129, else InvalidPrefix; then
@@ -76,7 +76,7 @@ statedAt reading s at = extentOf (getD s at 0) (offsetIn reading s at) (fromIn r
 unfoldable pub extentAt : Reading → List ℕ → ℕ → Answer Extent
 extentAt reading s at =
     pick (ltb (length s) (fromIn reading at)) (refuses 1 [])
-    (pick (rangeIn reading (getD s at 0) (offsetIn reading s at)) (octetsAt s (statedAt reading s at)) (refuses 4 []))
+    (pick (rangeIn reading (getD s at 0) (offsetIn reading s at)) (octetsAt s (namedAt reading s at)) (refuses 4 []))
 
 abbrev pub toldExtent : ExtentRead → Answer Extent
 toldExtent (Is e) = accepts e

@@ -49,6 +49,108 @@ pub fn octets_of(n: u8) -> usize
     (n as usize + 7) / 8
 }
 
+// Whether the standard forms of IPv6 have such a length with such an offset.
+pub fn offset_fits(len: u8, off: u8) -> bool
+    ensures { λ r. ⌜ r ≡ offsetFits len off ⌝ }
+{
+    if len == 0 {
+        return off == 0;
+    }
+    if len < 129 {
+        return off < len;
+    }
+    false
+}
+
+// The extent of a length and an offset whose address octets start at a place.
+fn extent_of(len: u8, off: u8, from: usize) -> Extent
+    requires { ⌜ (off ≤ len) × (from + octetsOf (len - off) < 2 ^ 64) ⌝ }
+    ensures { λ r. ⌜ r ≡ extentOf len off from ⌝ }
+{
+    Extent {
+        length: len,
+        offset: off,
+        from: from,
+        next: Cursor {
+            at: from + octets_of(len - off),
+        },
+    }
+}
+
+// The same where the address octets are there.
+fn octets_at(s: &[u8], len: u8, off: u8, from: usize) -> ExtentRead
+    requires { ⌜ (off ≤ len) × (from ≤ length (now s)) ⌝ }
+    ensures { λ r. ⌜ toldExtent r ≡ octetsAt (now (s .entry)) (extentOf len off from) ⌝ }
+{
+    if s.len() - from < octets_of(len - off) {
+        return ExtentRead::Refused(Fault {
+            error: FlowSpecError::InsufficientData,
+        });
+    }
+    ExtentRead::Is(extent_of(len, off, from))
+}
+
+// Where the prefix at a cursor stands, as the reading has it. Every test of a prefix is made here, and no address.
+pub fn extent_at(reading: Reading, s: &[u8], c: Cursor) -> ExtentRead
+    ensures { λ r. ⌜ toldExtent r ≡ extentAt reading (now (s .entry)) (c .at) ⌝ }
+{
+    let at = c.at;
+    if s.len() <= at {
+        return ExtentRead::Refused(Fault {
+            error: FlowSpecError::InsufficientData,
+        });
+    }
+    let len = s[at];
+    let from = at + 1;
+    match reading {
+        Reading::Plain => {
+            if 128 < len {
+                return ExtentRead::Refused(Fault {
+                    error: FlowSpecError::InvalidPrefix,
+                });
+            }
+            octets_at(s, len, 0, from)
+        }
+        Reading::Ipv4 => {
+            if 32 < len {
+                return ExtentRead::Refused(Fault {
+                    error: FlowSpecError::InvalidPrefix,
+                });
+            }
+            octets_at(s, len, 0, from)
+        }
+        Reading::Ipv6 => {
+            if s.len() <= from {
+                return ExtentRead::Refused(Fault {
+                    error: FlowSpecError::InsufficientData,
+                });
+            }
+            let off = s[from];
+            if !offset_fits(len, off) {
+                return ExtentRead::Refused(Fault {
+                    error: FlowSpecError::InvalidPrefix,
+                });
+            }
+            octets_at(s, len, off, from + 1)
+        }
+    }
+}
+
+// The same extent where it was accepted before: nothing is tested again.
+fn extent_in(reading: Reading, s: &[u8], c: Cursor) -> Extent
+    requires { ⌜ isExtent (extentAt reading (now s) (c .at)) ≡ true ⌝ }
+    ensures { λ r. ⌜ extentAt reading (now (s .entry)) (c .at) ≡ accepts r ⌝ }
+{
+    let at = c.at;
+    let len = s[at];
+    let from = at + 1;
+    match reading {
+        Reading::Plain => extent_of(len, 0, from),
+        Reading::Ipv4 => extent_of(len, 0, from),
+        Reading::Ipv6 => extent_of(len, s[from], from + 1),
+    }
+}
+
 // The address whose first octets, as many as hold len bits, spell v.
 fn front_ipv4(len: u8, v: Wide) -> u32
     requires { ⌜ (len ≤ 32) × (num v < 2 ^ (8 * octetsOf len)) ⌝ }
@@ -111,111 +213,9 @@ fn ipv6_of(len: u8, off: u8, v: Wide) -> NetworkPrefix
     }
 }
 
-// Whether the standard forms of IPv6 have such a length with such an offset.
-pub fn offset_fits(len: u8, off: u8) -> bool
-    ensures { λ r. ⌜ r ≡ offsetFits len off ⌝ }
-{
-    if len == 0 {
-        return off == 0;
-    }
-    if len < 129 {
-        return off < len;
-    }
-    false
-}
-
-// The extent of so many bits from an offset on, whose octets start at a place.
-fn span(len: u8, off: u8, from: usize) -> Extent
-    requires { ⌜ (off ≤ len) × (from + octetsOf (len - off) < 2 ^ 64) ⌝ }
-    ensures { λ r. ⌜ r ≡ extentOf len off from ⌝ }
-{
-    Extent {
-        length: len,
-        offset: off,
-        from: from,
-        next: Cursor {
-            at: from + octets_of(len - off),
-        },
-    }
-}
-
-// The same where its octets are there.
-fn spanned(s: &[u8], len: u8, off: u8, from: usize) -> ExtentRead
-    requires { ⌜ (off ≤ len) × (from ≤ length (now s)) ⌝ }
-    ensures { λ r. ⌜ toldExtent r ≡ octetsAt (now (s .entry)) (extentOf len off from) ⌝ }
-{
-    if s.len() - from < octets_of(len - off) {
-        return ExtentRead::Refused(Fault {
-            error: FlowSpecError::InsufficientData,
-        });
-    }
-    ExtentRead::Is(span(len, off, from))
-}
-
-// Where the prefix at a cursor stands, as the reading has it. Every test of a prefix is made here, and no address.
-pub fn extent_at(reading: Reading, s: &[u8], c: Cursor) -> ExtentRead
-    ensures { λ r. ⌜ toldExtent r ≡ extentAt reading (now (s .entry)) (c .at) ⌝ }
-{
-    let at = c.at;
-    if s.len() <= at {
-        return ExtentRead::Refused(Fault {
-            error: FlowSpecError::InsufficientData,
-        });
-    }
-    let len = s[at];
-    let from = at + 1;
-    match reading {
-        Reading::Plain => {
-            if 128 < len {
-                return ExtentRead::Refused(Fault {
-                    error: FlowSpecError::InvalidPrefix,
-                });
-            }
-            spanned(s, len, 0, from)
-        }
-        Reading::Ipv4 => {
-            if 32 < len {
-                return ExtentRead::Refused(Fault {
-                    error: FlowSpecError::InvalidPrefix,
-                });
-            }
-            spanned(s, len, 0, from)
-        }
-        Reading::Ipv6 => {
-            if s.len() <= from {
-                return ExtentRead::Refused(Fault {
-                    error: FlowSpecError::InsufficientData,
-                });
-            }
-            let off = s[from];
-            if !offset_fits(len, off) {
-                return ExtentRead::Refused(Fault {
-                    error: FlowSpecError::InvalidPrefix,
-                });
-            }
-            spanned(s, len, off, from + 1)
-        }
-    }
-}
-
-// The same extent where it is known to be one, so that nothing is tested again.
-fn extent_in(reading: Reading, s: &[u8], c: Cursor) -> Extent
-    requires { ⌜ isExtent (extentAt reading (now s) (c .at)) ≡ true ⌝ }
-    ensures { λ r. ⌜ extentAt reading (now (s .entry)) (c .at) ≡ accepts r ⌝ }
-{
-    let at = c.at;
-    let len = s[at];
-    let from = at + 1;
-    match reading {
-        Reading::Plain => span(len, 0, from),
-        Reading::Ipv4 => span(len, 0, from),
-        Reading::Ipv6 => span(len, s[from], from + 1),
-    }
-}
-
 impl Extent {
-    // The prefix that the octets make, and the cursor after them. No entry point: the extent was found in these octets.
-    pub fn prefix(self, reading: Reading, s: &[u8]) -> PrefixAt
+    // The prefix that the octets make, and the cursor after it. The extent was found in these octets.
+    fn prefix(self, reading: Reading, s: &[u8]) -> PrefixAt
         requires { ⌜ Stands reading (now s) self ⌝ }
         ensures { λ r. ⌜ r ≡ prefixFrom reading (now (s .entry)) self ⌝ }
     {
@@ -240,7 +240,7 @@ impl Extent {
     }
 }
 
-// The prefix at a cursor of which the extent was accepted: the second pass over a body. No entry point.
+// The prefix at a cursor where its extent was accepted before, for a second pass over the octets. No entry point.
 pub fn prefix_in(reading: Reading, s: &[u8], c: Cursor) -> PrefixAt
     requires { ⌜ isExtent (extentAt reading (now s) (c .at)) ≡ true ⌝ }
     ensures { λ r. ⌜ prefixAt reading (now (s .entry)) (c .at) ≡ accepts r ⌝ }

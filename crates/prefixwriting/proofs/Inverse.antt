@@ -23,7 +23,7 @@ use Rattle.rules.specs.declared.NetworkPrefix.{NetworkPrefix}
 use Rattle.rules.specs.declared.NetworkPrefix.the-variants.{Ipv4 as V4, Ipv6 as V6, Ipv4Offset as V4Offset, Ipv6Offset as V6Offset}
 use Rattle.prefixes.specs.Prefixes.{octetsOf, offsetFits, frontAddress, offsetAddress, ipv6Offset, wholePrefix, prefixAt}
 use Rattle.prefixes.specs.Forms.{clean, validIn}
-use Rattle.prefixes.proofs.Laws.{fits-le, prefix-stated}
+use Rattle.prefixes.proofs.Laws.{fits-le, prefix-named}
 use Rattle.prefixwriting.specs.Writings.{standardOctets}
 use Rattle.prefixwriting.proofs.Puts.{length-standard}
 
@@ -78,7 +78,7 @@ module _ (xs ys : List ℕ) where
       let o : length xs + 1 + octetsOf (len - 0) ≡ length xs + length (standardOctets (V4 len a)) = omega (arith, length-standard (V4 len a)) in
       let z : len - 0 ≡ len = omega arith in
       let w = ap (λ (j : ℕ). valueOf (take (octetsOf j) (drop (length xs + 1) s))) z ∙ value-back s (length xs + 1) k v ys (drop-append-add xs (len ∷ (spelled k v ++ ys)) 1) b in
-      prefix-stated Ipv4 s (length xs) len 0 v g refl (le-leb len 32 l) (omega arith) w
+      prefix-named Ipv4 s (length xs) len 0 v g refl (le-leb len 32 l) (omega arith) w
       ∙ ap₂ (λ (x j : ℕ). accepts (wholePrefix (V4 len x) j)) (front-back len a l (t .0)) o
 
   back-ipv6 : (len off h l : ℕ) → l < 2 ^ 64 → offsetFits len off ≡ true → clean 128 len off (wide h l) ≡ true
@@ -99,7 +99,7 @@ module _ (xs ys : List ℕ) where
       let u : a / 2 ^ (128 - len) < 2 ^ c = shr-lt c (128 - len) (subst (λ (j : ℕ). a < 2 ^ j) (sym e) (t .1)) in
       let b : v < 2 ^ (8 * k) = subst (λ (j : ℕ). v < 2 ^ j) d (shl-lt c (8 * k - c) u) in
       let o : length xs + 2 + k ≡ length xs + length (standardOctets (V6Offset len off h l)) = omega (arith, length-standard (V6Offset len off h l)) in
-      prefix-stated Ipv6 s (length xs) len off v g i f (omega arith) (value-back s (length xs + 2) k v ys (drop-append-add xs (len ∷ off ∷ (spelled k v ++ ys)) 2) b)
+      prefix-named Ipv6 s (length xs) len off v g i f (omega arith) (value-back s (length xs + 2) k v ys (drop-append-add xs (len ∷ off ∷ (spelled k v ++ ys)) 2) b)
       ∙ ap₂ (λ (x j : ℕ). accepts (wholePrefix (ipv6Offset len off x) j)) (offset-back len off a (t .0)) o
       ∙ ap₂ (λ (x y : ℕ). accepts (wholePrefix (V6Offset len off x y) (length xs + length (standardOctets (V6Offset len off h l))))) (high h 64 hl) (low h 64 hl)
 

@@ -1,5 +1,5 @@
 -- `prefixes::clean_ipv4` meets its contract: what is kept is the first bits, and nothing stands above 32.
-use Prim.Native.Nat.{ℕ, _-_}
+use Prim.Native.Nat.{ℕ}
 use mathlib.Core.Path.{ap, _∙_}
 use lib.Dec.{eqb}
 use Rattle.prefixes.proofs.Addresses.{none-before}

@@ -1,5 +1,4 @@
 -- `prefixes::clean_ipv6` meets its contract: each test is one of what was kept.
-use Prim.Native.Nat.{_-_}
 use mathlib.Core.Path.{_≡_, sym, ap, _∙_}
 use mathlib.Core.Bool.{Bool, true, _&&_}
 use lib.Dec.{eqb}

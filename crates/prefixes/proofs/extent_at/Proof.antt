@@ -13,7 +13,7 @@ use Rattle.prefixes.proofs.extent_at.Tie as tie
 use Rattle.prefixes.proofs.extent_at.Reads as reads
 use Rattle.prefixes.proofs.extent_at.Lts as lts
 use Rattle.prefixes.proofs.offset_fits.Reads as offset-fits-reads
-use Rattle.prefixes.proofs.spanned.Reads as spanned-reads
+use Rattle.prefixes.proofs.octets_at.Reads as octets-at-reads
 
 returns : tie.Need-returns
 returns c = sym (extent-none _ _ _ (c .if1 .taken))
@@ -28,19 +28,19 @@ enum-told : tie.Need-enum-told
 enum-told c = search needs
 
 returns-2 : tie.Need-returns-2
-returns-2 c = rw (c .before .enum-told .given .1) (sym (extent-bad Plain _ _ (omega arith) (lt-leb _ _ (c .if2 .taken))))
+returns-2 c = rw (c .before .enum-told .given .1) (sym (extent-bad Plain _ _ (omega arith) (lt-leb _ 128 (c .if2 .taken))))
 
-spanned-requires : tie.Need-spanned-requires
-spanned-requires c κs = search needs
+octets-at-requires : tie.Need-octets-at-requires
+octets-at-requires c κs = search needs
 
 enum-told-2 : tie.Need-enum-told-2
 enum-told-2 c = search needs
 
 returns-3 : tie.Need-returns-3
-returns-3 c = rw (c .before .enum-told2 .given .1) (sym (extent-bad Ipv4 _ _ (omega arith) (lt-leb _ _ (c .if3 .taken))))
+returns-3 c = rw (c .before .enum-told2 .given .1) (sym (extent-bad Ipv4 _ _ (omega arith) (lt-leb _ 32 (c .if3 .taken))))
 
-spanned-requires-2 : tie.Need-spanned-requires-2
-spanned-requires-2 c κs = search needs
+octets-at-requires-2 : tie.Need-octets-at-requires-2
+octets-at-requires-2 c κs = search needs
 
 enum-told-3 : tie.Need-enum-told-3
 enum-told-3 c = search needs
@@ -57,17 +57,17 @@ offset-fits-requires c κs = search needs
 returns-5 : tie.Need-returns-5
 returns-5 c = rw (c .before .before .before .before .enum-told3 .given .1) (sym (extent-bad Ipv6 _ _ (omega arith) (sym (c .before .offset-fits .ensures) ∙ not-true _ (c .if5 .taken))))
 
-add-spanned : tie.Need-add-spanned
-add-spanned c = search needs
+add-octets-at : tie.Need-add-octets-at
+add-octets-at c = search needs
 
-spanned-requires-3 : tie.Need-spanned-requires-3
-spanned-requires-3 c κs = let a = c .before .before .before .before .before .before .before .before .before .args in (fits-le (getD (a .s .now) (a .c .at) 0) (getD (a .s .now) (a .c .at + 1) 0) (sym (c .before .offset-fits .ensures) ∙ not-false _ (c .if5 .left)) .0, omega arith)
+octets-at-requires-3 : tie.Need-octets-at-requires-3
+octets-at-requires-3 c κs = let a = c .before .before .before .before .before .before .before .before .before .args in (fits-le (getD (a .s .now) (a .c .at) 0) (getD (a .s .now) (a .c .at + 1) 0) (sym (c .before .offset-fits .ensures) ∙ not-false _ (c .if5 .left)) .0, omega arith)
 
 returns-6 : tie.Need-returns-6
-returns-6 c = rw (c .before .before .enum-told .given .1) (c .spanned .ensures ∙ sym (extent-octets Plain _ _ (omega arith) (le-leb _ _ (c .before .if2 .left))))
+returns-6 c = rw (c .before .before .enum-told .given .1) (c .octets-at .ensures ∙ sym (extent-octets Plain _ _ (omega arith) (le-leb _ 128 (c .before .if2 .left))))
 
 returns-7 : tie.Need-returns-7
-returns-7 c = rw (c .before .before .enum-told2 .given .1) (c .spanned2 .ensures ∙ sym (extent-octets Ipv4 _ _ (omega arith) (le-leb _ _ (c .before .if3 .left))))
+returns-7 c = rw (c .before .before .enum-told2 .given .1) (c .octets-at2 .ensures ∙ sym (extent-octets Ipv4 _ _ (omega arith) (le-leb _ 32 (c .before .if3 .left))))
 
 returns-8 : tie.Need-returns-8
 returns-8 c =
@@ -78,7 +78,7 @@ returns-8 c =
     let off = getD (a .s .now) (a .c .at + 1) 0 in
     let n : a .c .at + 1 + 1 ≡ a .c .at + 2 = omega arith in
     rw (g .enum-told3 .given .1)
-    (c .spanned3 .ensures ∙ ap (λ (j : ℕ). octetsAt (a .s .now) (extentOf len off j)) n
+    (c .octets-at3 .ensures ∙ ap (λ (j : ℕ). octetsAt (a .s .now) (extentOf len off j)) n
     ∙ sym (extent-octets Ipv6 (a .s .now) (a .c .at) (omega arith) (sym (f .before .offset-fits .ensures) ∙ not-false _ (f .if5 .left))))
 
 pub extent-at-spec : {M : Type 1} → statement M
@@ -90,17 +90,17 @@ extent-at-spec =
     add-from
     enum-told
     returns-2
-    spanned-requires
+    octets-at-requires
     enum-told-2
     returns-3
-    spanned-requires-2
+    octets-at-requires-2
     enum-told-3
     returns-4
     shared-slice-read-off
     offset-fits-requires
     returns-5
-    add-spanned
-    spanned-requires-3
+    add-octets-at
+    octets-at-requires-3
     returns-6
     returns-7
     returns-8)

@@ -13,7 +13,7 @@ use Rattle.prefixes.proofs.extent_in.Statement.{statement}
 use Rattle.prefixes.proofs.extent_in.Tie as tie
 use Rattle.prefixes.proofs.extent_in.Reads as reads
 use Rattle.prefixes.proofs.extent_in.Lts as lts
-use Rattle.prefixes.proofs.span.Reads as span-reads
+use Rattle.prefixes.proofs.extent_of.Reads as extent-of-reads
 
 shared-slice-read-len : tie.Need-shared-slice-read-len
 shared-slice-read-len c = let g = c .before .before in omega (arith, from-past (g .args .reading) (g .args .c .at), (extent-taken _ _ _ (g .pre)) .head)
@@ -24,8 +24,8 @@ add-from c = let g = c .before .before in omega (arith, from-past (g .args .read
 enum-told : tie.Need-enum-told
 enum-told c = search needs
 
-span-requires : tie.Need-span-requires
-span-requires c κs =
+extent-of-requires : tie.Need-extent-of-requires
+extent-of-requires c κs =
     let g = c .before .before .before .before in
     let t = subst (λ (r : Reading). Taken r (g .args .s .now) (g .args .c .at)) (c .enum-told .given .1) (extent-taken _ _ _ (g .pre)) in
     (omega arith, omega (arith, t .within))
@@ -33,8 +33,8 @@ span-requires c κs =
 enum-told-2 : tie.Need-enum-told-2
 enum-told-2 c = search needs
 
-span-requires-2 : tie.Need-span-requires-2
-span-requires-2 c κs =
+extent-of-requires-2 : tie.Need-extent-of-requires-2
+extent-of-requires-2 c κs =
     let g = c .before .before .before .before in
     let t = subst (λ (r : Reading). Taken r (g .args .s .now) (g .args .c .at)) (c .enum-told2 .given .1) (extent-taken _ _ _ (g .pre)) in
     (omega arith, omega (arith, t .within))
@@ -42,20 +42,20 @@ span-requires-2 c κs =
 enum-told-3 : tie.Need-enum-told-3
 enum-told-3 c = search needs
 
-shared-slice-read-span : tie.Need-shared-slice-read-span
-shared-slice-read-span c =
+shared-slice-read-extent-of : tie.Need-shared-slice-read-extent-of
+shared-slice-read-extent-of c =
     let g = c .before .before .before .before .before in
     let t = subst (λ (r : Reading). Taken r (g .args .s .now) (g .args .c .at)) (c .before .enum-told3 .given .1) (extent-taken _ _ _ (g .pre)) in
     omega (arith, t .head)
 
-add-span : tie.Need-add-span
-add-span c =
+add-extent-of : tie.Need-add-extent-of
+add-extent-of c =
     let g = c .before .before .before .before .before in
     let t = subst (λ (r : Reading). Taken r (g .args .s .now) (g .args .c .at)) (c .before .enum-told3 .given .1) (extent-taken _ _ _ (g .pre)) in
     omega (arith, t .head)
 
-span-requires-3 : tie.Need-span-requires-3
-span-requires-3 c κs =
+extent-of-requires-3 : tie.Need-extent-of-requires-3
+extent-of-requires-3 c κs =
     let g = c .before .before .before .before .before in
     let t = subst (λ (r : Reading). Taken r (g .args .s .now) (g .args .c .at)) (c .before .enum-told3 .given .1) (extent-taken _ _ _ (g .pre)) in
     (taken-ranged Ipv6 (g .args .s .now) (g .args .c .at) t .1, omega (arith, t .within))
@@ -64,13 +64,13 @@ returns : tie.Need-returns
 returns c =
     let g = c .before .before .before .before .before in
     let t = subst (λ (r : Reading). Taken r (g .args .s .now) (g .args .c .at)) (c .before .enum-told .given .1) (extent-taken _ _ _ (g .pre)) in
-    rw (c .before .enum-told .given .1) (taken-extent Plain (g .args .s .now) (g .args .c .at) t ∙ ap accepts (sym (c .span .ensures)))
+    rw (c .before .enum-told .given .1) (taken-extent Plain (g .args .s .now) (g .args .c .at) t ∙ ap accepts (sym (c .extent-of .ensures)))
 
 returns-2 : tie.Need-returns-2
 returns-2 c =
     let g = c .before .before .before .before .before in
     let t = subst (λ (r : Reading). Taken r (g .args .s .now) (g .args .c .at)) (c .before .enum-told2 .given .1) (extent-taken _ _ _ (g .pre)) in
-    rw (c .before .enum-told2 .given .1) (taken-extent Ipv4 (g .args .s .now) (g .args .c .at) t ∙ ap accepts (sym (c .span2 .ensures)))
+    rw (c .before .enum-told2 .given .1) (taken-extent Ipv4 (g .args .s .now) (g .args .c .at) t ∙ ap accepts (sym (c .extent-of2 .ensures)))
 
 returns-3 : tie.Need-returns-3
 returns-3 c =
@@ -82,7 +82,7 @@ returns-3 c =
     rw i
     (taken-extent Ipv6 (a .s .now) (a .c .at) t
     ∙ ap (λ (j : ℕ). accepts (extentOf (getD (a .s .now) (a .c .at) 0) (getD (a .s .now) (a .c .at + 1) 0) j)) n
-    ∙ ap accepts (sym (c .span3 .ensures)))
+    ∙ ap accepts (sym (c .extent-of3 .ensures)))
 
 pub extent-in-spec : {M : Type 1} → statement M
 extent-in-spec =
@@ -91,13 +91,13 @@ extent-in-spec =
     shared-slice-read-len
     add-from
     enum-told
-    span-requires
+    extent-of-requires
     enum-told-2
-    span-requires-2
+    extent-of-requires-2
     enum-told-3
-    shared-slice-read-span
-    add-span
-    span-requires-3
+    shared-slice-read-extent-of
+    add-extent-of
+    extent-of-requires-3
     returns
     returns-2
     returns-3)

@@ -1,5 +1,5 @@
 -- `prefixes::ipv4_of` meets its contract: the first bits of the address that the octets give.
-use Prim.Native.Nat.{ℕ, _-_}
+use Prim.Native.Nat.{ℕ}
 use mathlib.Core.Path.{ap, _∙_}
 use Rattle.rules.specs.declared.NetworkPrefix.the-variants.{Ipv4}
 use Rattle.octets.specs.Addresses.{firstBits}

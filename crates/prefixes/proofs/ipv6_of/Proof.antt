@@ -1,5 +1,4 @@
 -- `prefixes::ipv6_of` meets its contract: the bits moved to their place fit in 128 bits.
-use Prim.Native.Nat.{_-_}
 use mathlib.Core.Path.{ap}
 use Rattle.wide.specs.declared.Wide.{Wide}
 use Rattle.rules.specs.declared.NetworkPrefix.the-variants.{Ipv6Offset}

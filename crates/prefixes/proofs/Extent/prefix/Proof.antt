@@ -1,5 +1,4 @@
 -- `prefixes::Extent::prefix` meets its contract: the octets spell a number, of which the reading makes its prefix.
-use Prim.Native.Nat.{ℕ, _+_, _-_}
 use mathlib.Core.Path.{_≡_, ap, _∙_, subst}
 use native.Mathlib.Omega.{arith}
 use Rattle.choices.specs.declared.Reading.{Reading}

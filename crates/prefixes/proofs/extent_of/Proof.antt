@@ -1,8 +1,8 @@
 use borrow.Author.Needs.{needs}
-use Rattle.prefixes.proofs.span.Statement.{statement}
-use Rattle.prefixes.proofs.span.Tie as tie
-use Rattle.prefixes.proofs.span.Reads as reads
-use Rattle.prefixes.proofs.span.Lts as lts
+use Rattle.prefixes.proofs.extent_of.Statement.{statement}
+use Rattle.prefixes.proofs.extent_of.Tie as tie
+use Rattle.prefixes.proofs.extent_of.Reads as reads
+use Rattle.prefixes.proofs.extent_of.Lts as lts
 use Rattle.prefixes.proofs.octets_of.Reads as octets-of-reads
 
 -- src/lib.rt:202:34
@@ -21,5 +21,5 @@ add-t6 c = search needs
 returns : tie.Need-returns
 returns c = rw (c .octets-of .ensures)
 
-pub span-spec : {M : Type 1} → statement M
-span-spec = tie.close (tie.spec sub-octets-of octets-of-requires add-t6 returns)
+pub extent-of-spec : {M : Type 1} → statement M
+extent-of-spec = tie.close (tie.spec sub-octets-of octets-of-requires add-t6 returns)
