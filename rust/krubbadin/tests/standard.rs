@@ -1,26 +1,10 @@
 //! The standard calls on owned rules say what the surface says on words: readings, writings, and every refusal through the safe types.
 
-#[path = "../../differential/src/inputs.rs"]
-#[allow(dead_code)]
-mod inputs;
-#[path = "../../differential/src/random.rs"]
-#[allow(dead_code)]
-mod random;
-
+use inputs::{Form, Random, LONGEST_INPUT};
 use krubbadin::surface::{self, COUNT, FAMILY, OPERATORS, WORDS};
 use krubbadin::*;
-use random::Random;
 use std::cmp::Ordering;
 use std::error::Error;
-
-// What `inputs` asks for.
-#[derive(Debug, Clone, Copy, PartialEq, Eq)]
-pub enum Form {
-    Plain,
-    Standard(u8),
-}
-const LONGEST_INPUT: usize = 4097;
-const LONGEST_BODY: usize = 4095;
 
 const FAMILIES: [Family; 2] = [Family::Ipv4, Family::Ipv6];
 

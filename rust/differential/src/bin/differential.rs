@@ -2,9 +2,9 @@
 
 use differential::compare::Comparison;
 use differential::decisions::{self, Ways};
-use differential::random::Random;
 use differential::stored::Stored;
-use differential::{edges, inputs, records, Form};
+use differential::{edges, records, Form};
+use inputs::Random;
 use std::process::ExitCode;
 use std::time::Instant;
 

@@ -3,7 +3,6 @@
 #![forbid(unsafe_code)]
 
 mod calls;
-mod text;
 
 use calls::Desk;
 use std::io::{self, ErrorKind, Read, Write};
