@@ -1,8 +1,8 @@
 //! Writes `tests/standard-answers`: the requests of `differential::samples`, each with what the crate
 //! `standard` answers, a line for each: `REQUEST = ANSWER`.
 //!
-//!   rust/differential/run standard-answers            writes the list
-//!   rust/differential/run standard-answers --check    compares the list with a new one, writes nothing
+//!   rust/run standard-answers            writes the list
+//!   rust/run standard-answers --check    compares the list with a new one, writes nothing
 //!
 //! Exit: 0 done or equal, 1 differs or failed, 2 misused.
 
