@@ -47,7 +47,7 @@ pub const FIXED: [&str; 36] = [
     "1A 03 81 06 04 81 19 05 81 50 06 81 51 07 81 08 08 81 00 09 81 02 0A 81 40 0B 81 0A",
 ];
 
-/// The input that a text in hex stands for.
+/// The octets that a text in hex stands for, with blanks between them.
 pub fn octets(text: &str) -> Vec<u8> {
     let octets = text
         .split_whitespace()
