@@ -80,6 +80,17 @@ fn rules_that_are_built_are_written_as_the_original_writes_them() {
 }
 
 #[test]
+fn rules_that_are_too_long_have_the_length_that_the_original_gives() {
+    let (proved, original) = (proved::too_long(), original::too_long());
+    assert!(proved.len() == original.len() && proved.len() > 20);
+    for (rule, same) in proved.iter().zip(&original) {
+        let said = proved::written(rule);
+        assert_eq!(said, original::written(same));
+        assert!(said.ends_with(" over 4095"), "{said}");
+    }
+}
+
+#[test]
 fn operators_are_those_of_the_original() {
     for value in [
         0,

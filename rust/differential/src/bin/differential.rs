@@ -25,7 +25,9 @@ struct Wanted {
 }
 
 fn main() -> ExitCode {
-    let arguments: Vec<String> = std::env::args().skip(1).collect();
+    // An argument that is no text is none that is known.
+    let known = |one: std::ffi::OsString| one.to_string_lossy().into_owned();
+    let arguments: Vec<String> = std::env::args_os().skip(1).map(known).collect();
     let wanted = match wanted(&arguments) {
         Some(wanted) => wanted,
         None => {

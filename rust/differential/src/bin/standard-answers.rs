@@ -15,7 +15,9 @@ use std::{env, fs, io};
 const LIST: &str = "tests/standard-answers";
 
 fn main() -> ExitCode {
-    let arguments: Vec<String> = env::args().skip(1).collect();
+    // An argument that is no text is none that is known.
+    let known = |one: std::ffi::OsString| one.to_string_lossy().into_owned();
+    let arguments: Vec<String> = env::args_os().skip(1).map(known).collect();
     let arguments: Vec<&str> = arguments.iter().map(String::as_str).collect();
     let root = Path::new(env!("CARGO_MANIFEST_DIR")).join("../..");
     let file = root.join(LIST);
