@@ -14,19 +14,22 @@ fn main() {
         Some(file) => vec![PathBuf::from(file)],
         None => made_here(),
     };
-    for file in &files {
-        println!("cargo:rerun-if-changed={}", file.display());
-    }
-    match files.iter().find_map(|file| folder_of(file)) {
-        Some(folder) => {
+    match files.iter().find_map(|file| Some((file, folder_of(file)?))) {
+        Some((file, folder)) => {
+            println!("cargo:rerun-if-changed={}", file.display());
             println!("cargo:rustc-link-search=native={}", folder.display());
             println!("cargo:rustc-link-lib=static=krubbadin");
         }
         None => {
-            let tried: Vec<String> = files.iter().map(|file| file.display().to_string()).collect();
+            let tried: Vec<String> = files
+                .iter()
+                .map(|file| file.display().to_string())
+                .collect();
             eprintln!("krubbadin: there is no {NAME}, the archive of the proved code. Looked at:");
             eprintln!("  {}", tried.join("\n  "));
-            eprintln!("Make it with `rt staticlib krubbadin` at the root of the repository (on Arm:");
+            eprintln!(
+                "Make it with `rt staticlib krubbadin` at the root of the repository (on Arm:"
+            );
             eprintln!("tools/host-archive), or let {NAMED} name one; its file name is {NAME}.");
             process::exit(1);
         }

@@ -375,7 +375,9 @@ fn each_field_of_a_packet_is_named() {
     let four = Packet::new([10, 1, 2, 3], [192, 0, 2, 1]).words();
     let six = Packet::new([1; 16], [2; 16]).words();
     assert_eq!((why_packet(&four), why_packet(&six)), (None, None));
-    let cases: [(&[(usize, u64)], Field, bool); 19] = [
+    type Words = [(usize, u64)];
+    // Whether it is out of range in IPv6 too.
+    let cases: [(&Words, Field, bool); 19] = [
         (&[(0, 5)], Field::Family, true),
         (&[(1, 1)], Field::Destination, false),
         (&[(2, 1 << 32)], Field::Destination, false),
