@@ -3,9 +3,9 @@
 #![forbid(unsafe_code)]
 
 mod calls;
-mod text;
 
 use calls::Desk;
+use std::ffi::OsString;
 use std::io::{self, ErrorKind, Read, Write};
 use std::process::ExitCode;
 
@@ -13,12 +13,15 @@ use std::process::ExitCode;
 const CHUNK: usize = 1 << 16;
 
 fn main() -> ExitCode {
-    let arguments: Vec<String> = std::env::args().skip(1).collect();
-    let done = match arguments.iter().map(String::as_str).collect::<Vec<_>>()[..] {
-        [] => answer_all(io::stdin().lock(), io::stdout().lock()),
-        ["--help"] => io::stdout().write_all(include_bytes!("help.txt")),
-        _ => {
-            eprintln!("answer: requests come on standard input; try answer --help");
+    // An argument need not be text.
+    let arguments: Vec<OsString> = std::env::args_os().skip(1).collect();
+    let done = match arguments.first() {
+        None => answer_all(io::stdin().lock(), io::stdout().lock()),
+        Some(help) if help == "--help" && arguments.len() == 1 => {
+            io::stdout().write_all(include_bytes!("help.txt"))
+        }
+        Some(other) => {
+            eprintln!("answer: no argument {other:?}: requests come on standard input, and --help says what they are");
             return ExitCode::from(2);
         }
     };

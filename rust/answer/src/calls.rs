@@ -1,8 +1,8 @@
 //! The calls: a request's fields go to the surface, and what comes back becomes an answer.
 
-use crate::text::{self, Bad, Read, NONE};
 use krubbadin::surface::{self, COUNT, FAMILY, FIRST, OPERATORS, WORDS};
 use krubbadin::Refusal;
+use protocol::{words, Bad, Packet, Read, Span};
 
 /// The most places or octets that a request may ask to be lent.
 const MOST_LENT: u64 = 1 << 20;
@@ -44,7 +44,9 @@ impl Desk {
         let start = answers.len();
         match self.call(request, answers) {
             Ok(Ok(())) => {}
-            Ok(Err(refusal)) => put_refusal(refusal, answers),
+            Ok(Err(refusal)) => {
+                protocol::put_refusal(refusal.number().into(), refusal.carried(), answers);
+            }
             Err(Bad(reason)) => {
                 answers.truncate(start);
                 answers.extend_from_slice(b"bad ");
@@ -71,13 +73,15 @@ impl Desk {
                 self.write(0, 0, [rule, values, octets, room], answer)
             }
             [b"std_write", family, rule, values, octets, room] => {
-                let family = text::octet_number(family)?;
+                let family = protocol::octet_number(family)?;
                 self.write(1, family, [rule, values, octets, room], answer)
             }
             [b"match", family, octets, packet] => {
-                self.matches(text::octet_number(family)?, octets, packet, answer)
+                self.matches(protocol::octet_number(family)?, octets, packet, answer)
             }
-            [b"rank", family, one, two] => self.rank(text::octet_number(family)?, one, two, answer),
+            [b"rank", family, one, two] => {
+                self.rank(protocol::octet_number(family)?, one, two, answer)
+            }
             [b"choose", packet, rules] => self.choose(packet, rules, answer),
             _ => Err(Bad(NO_CALL)),
         }
@@ -91,9 +95,9 @@ impl Desk {
         places: &[u8],
         answer: &mut Vec<u8>,
     ) -> Said {
-        let (values, octets_lent) = text::pair(places)?;
+        let (values, octets_lent) = protocol::pair(places)?;
         let (values, octets_lent) = (lent(values)?, lent(octets_lent)?);
-        text::octets(octets, &mut self.input)?;
+        protocol::octets(octets, &mut self.input)?;
         let (used, operators) =
             match self
                 .one
@@ -103,11 +107,11 @@ impl Desk {
                 Err(refusal) => return Ok(Err(refusal)),
             };
         answer.extend_from_slice(b"ok ");
-        text::put_number(used as u64, answer);
+        protocol::put_number(used as u64, answer);
         answer.push(b' ');
-        text::put_number(operators as u64, answer);
+        protocol::put_number(operators as u64, answer);
         answer.push(b' ');
-        text::put_rule(&self.one.words, &self.one.values, &self.one.octets, answer);
+        self.one.put_rule(answer);
         Ok(Ok(()))
     }
 
@@ -120,10 +124,12 @@ impl Desk {
     ) -> Said {
         let lists = &mut self.one;
         lists.words.clear();
-        lists.push_rule(rule, u64::from(family), 0, |_, content| span(content))?;
-        text::values(values, &mut lists.values)?;
-        text::octets(octets, &mut lists.octets)?;
-        let room = lent(text::number(room)?)?;
+        lists.push_rule(rule, u64::from(family), 0, |_, content| {
+            protocol::span(content)
+        })?;
+        protocol::values(values, &mut lists.values)?;
+        protocol::octets(octets, &mut lists.octets)?;
+        let room = lent(protocol::number(room)?)?;
         grow(&mut self.out, room);
         let out = &mut self.out[..room];
         let written = surface::write(
@@ -136,13 +142,13 @@ impl Desk {
         );
         Ok(written.accepted().map(|(written, _)| {
             answer.extend_from_slice(b"ok ");
-            text::put_octets(&out[..written], answer);
+            protocol::put_octets(&out[..written], answer);
         }))
     }
 
     fn matches(&mut self, family: u8, octets: &[u8], packet: &[u8], answer: &mut Vec<u8>) -> Said {
-        let packet = text::packet(packet)?;
-        text::octets(octets, &mut self.input)?;
+        let packet = Packet::read(packet)?.words();
+        protocol::octets(octets, &mut self.input)?;
         if let Err(refusal) = self.one.read_whole(family, &self.input) {
             return Ok(Err(refusal));
         }
@@ -155,8 +161,8 @@ impl Desk {
 
     fn rank(&mut self, family: u8, one: &[u8], two: &[u8], answer: &mut Vec<u8>) -> Said {
         // Both texts are read before either is put to the reading: a malformed request is answered as such.
-        text::octets(one, &mut self.input)?;
-        text::octets(two, &mut self.input2)?;
+        protocol::octets(one, &mut self.input)?;
+        protocol::octets(two, &mut self.input2)?;
         let read = self.one.read_whole(family, &self.input);
         if let Err(refusal) = read.and_then(|()| self.two.read_whole(family, &self.input2)) {
             return Ok(Err(refusal));
@@ -168,16 +174,16 @@ impl Desk {
     }
 
     fn choose(&mut self, packet: &[u8], rules: &[u8], answer: &mut Vec<u8>) -> Said {
-        let packet = text::packet(packet)?;
+        let packet = Packet::read(packet)?.words();
         let lists = &mut self.one;
         lists.clear();
         if rules != b"." {
             for rule in rules.split(|&byte| byte == b'&') {
                 let (family, rule) =
-                    text::cut(rule, b'=').ok_or(Bad("a rule to choose is FAMILY=RULE"))?;
+                    protocol::cut(rule, b'=').ok_or(Bad("a rule to choose is FAMILY=RULE"))?;
                 let first = lists.values.len() as u64;
                 let list = |lists: &mut Lists, content: &[u8]| lists.push_list(first, content);
-                lists.push_rule(rule, text::number(family)?, first, list)?;
+                lists.push_rule(rule, protocol::number(family)?, first, list)?;
             }
         }
         let said = surface::choose(&lists.words, &lists.values, &lists.octets, &packet);
@@ -185,7 +191,7 @@ impl Desk {
             answer.extend_from_slice(b"ok ");
             match found {
                 0 => answer.extend_from_slice(b"none"),
-                _ => text::put_number(place as u64, answer),
+                _ => protocol::put_number(place as u64, answer),
             }
         }))
     }
@@ -240,20 +246,19 @@ impl Lists {
         rule: &[u8],
         family: u64,
         first: u64,
-        list: impl Fn(&mut Self, &[u8]) -> Read<(u64, u64)>,
+        list: impl Fn(&mut Self, &[u8]) -> Read<Span>,
     ) -> Read<()> {
         let base = self.words.len();
         self.words.resize(base + WORDS, 0);
         let mut count = 0;
-        if rule != NONE {
-            for field in rule.split(|&byte| byte == b';') {
-                let words = text::component(field, |content| list(self, content))?;
-                // There are words for thirteen; that there are more is said by the count.
-                if count < GROUPS {
-                    self.words[base + 4 * count..base + 4 * count + 4].copy_from_slice(&words);
-                }
-                count += 1;
+        for component in protocol::components(rule) {
+            let component = component?.try_with_list(|content| list(self, content))?;
+            // There are words for thirteen; that there are more is said by the count.
+            if count < GROUPS {
+                let group = base + 4 * count..base + 4 * count + 4;
+                self.words[group].copy_from_slice(&words::of(&component));
             }
+            count += 1;
         }
         self.words[base + COUNT] = count as u64;
         self.words[base + FAMILY] = family;
@@ -262,27 +267,28 @@ impl Lists {
     }
 
     /// Adds a list's operators: its start, counted from the rule's first place, and its count.
-    fn push_list(&mut self, first: u64, content: &[u8]) -> Read<(u64, u64)> {
+    fn push_list(&mut self, first: u64, content: &[u8]) -> Read<Span> {
         let start = self.values.len() as u64;
-        if !content.is_empty() {
-            for field in content.split(|&byte| byte == b',') {
-                let (octet, value) = text::operator(field)?;
-                self.octets.push(octet);
-                self.values.push(value);
-            }
+        for operator in protocol::operators(content) {
+            let (octet, value) = operator?;
+            self.octets.push(octet);
+            self.values.push(value);
         }
         Ok((start - first, self.values.len() as u64 - start))
     }
-}
 
-/// A list that is named by its place in the lent lists.
-fn span(content: &[u8]) -> Read<(u64, u64)> {
-    const BAD: Bad = Bad("a component to write is a prefix or TYPE:@START+COUNT");
-    let (start, count) = match content {
-        [b'@', rest @ ..] => text::cut(rest, b'+').ok_or(BAD)?,
-        _ => return Err(BAD),
-    };
-    Ok((text::number(start)?, text::number(count)?))
+    /// Puts the rule that a reading left here.
+    fn put_rule(&self, out: &mut Vec<u8>) {
+        let count = self.words[COUNT] as usize;
+        let groups = self.words.chunks_exact(4).take(count);
+        let list = |(start, count): Span, out: &mut Vec<u8>| {
+            let places = start as usize..(start + count) as usize;
+            let octets = self.octets[places.clone()].iter().copied();
+            let values = self.values[places].iter().copied();
+            protocol::put_operators(octets.zip(values), out);
+        };
+        protocol::put_rule(groups.map(words::component), list, out);
+    }
 }
 
 /// A number of places to be lent.
@@ -297,14 +303,5 @@ fn lent(places: u64) -> Read<usize> {
 fn grow<T: Default + Clone>(list: &mut Vec<T>, length: usize) {
     if list.len() < length {
         list.resize(length, T::default());
-    }
-}
-
-fn put_refusal(refusal: Refusal, answer: &mut Vec<u8>) {
-    answer.extend_from_slice(b"err ");
-    text::put_number(u64::from(refusal.number()), answer);
-    for (place, number) in refusal.carried().enumerate() {
-        answer.push(if place == 0 { b' ' } else { b',' });
-        text::put_number(number, answer);
     }
 }

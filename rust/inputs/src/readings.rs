@@ -1,7 +1,7 @@
 //! Inputs of the readings: those made by rule, which every run has, and random ones.
 
+use crate::form::{Form, LONGEST_BODY, LONGEST_INPUT};
 use crate::random::Random;
-use crate::{Form, LONGEST_BODY, LONGEST_INPUT};
 
 /// Whoever is handed the inputs, one after another.
 pub type Take<'a> = &'a mut dyn FnMut(&[u8]);
@@ -47,7 +47,7 @@ pub const FIXED: [&str; 36] = [
     "1A 03 81 06 04 81 19 05 81 50 06 81 51 07 81 08 08 81 00 09 81 02 0A 81 40 0B 81 0A",
 ];
 
-/// The input that a text in hex stands for.
+/// The octets that a text in hex stands for, with blanks between them.
 pub fn octets(text: &str) -> Vec<u8> {
     let octets = text
         .split_whitespace()
@@ -396,7 +396,9 @@ fn damage(random: &mut Random, input: &mut Vec<u8>) {
             1 => input[place] = telling(random),
             2 | 3 => input[place] ^= 1 << random.below(8),
             4 => input.insert(place, telling(random)),
-            5 => drop(input.remove(place)),
+            5 => {
+                input.remove(place);
+            }
             6 => input.truncate(place),
             7 => input.push(telling(random)),
             8 => {

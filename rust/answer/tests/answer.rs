@@ -1,6 +1,8 @@
 //! The program answer: its lines. tests/answer, at the root of the repository, has what it answers to the documents' cases.
 
+use std::ffi::OsStr;
 use std::io::{Read, Write};
+use std::os::unix::ffi::OsStrExt;
 use std::process::{Command, Output, Stdio};
 
 /// The program, behind an emulator where KRUBBADIN_RUNNER names one.
@@ -172,7 +174,14 @@ fn the_command_line_is_checked() {
     ] {
         assert!(text.contains(word), "{word}");
     }
-    let output = answer(&["other"], b"");
-    assert_eq!(output.status.code(), Some(2));
-    assert!(output.stdout.is_empty() && !output.stderr.is_empty());
+    // The last is no text.
+    let other = [b"other", &b"--HELP"[..], b"", b"\n", b"\xFF"];
+    for argument in other.map(OsStr::from_bytes) {
+        let output = command().arg(argument).output().unwrap();
+        assert_eq!(output.status.code(), Some(2), "{argument:?}");
+        let said = String::from_utf8(output.stderr).unwrap();
+        assert!(output.stdout.is_empty() && said.starts_with("answer: no argument "));
+        assert_eq!(said.lines().count(), 1, "{said}");
+    }
+    assert_eq!(answer(&["--help", "--help"], b"").status.code(), Some(2));
 }
