@@ -24,7 +24,7 @@ use Rattle.stored.proofs.Inverse.{FitAll, put-read}
 use Rattle.measuring.specs.Bodies.{Lent, lent, bodyOctets}
 use Rattle.measuring.specs.Grounds.{bodyTaken, bodyOf}
 use Rattle.measuring.proofs.Laws.{Taken, body-needs}
-use Rattle.writing.specs.Writings.{onAccepted, ruleBody, bodyFrom, bodyIn, nlriOctets, inRoom, writtenRule, writtenFrom, writtenIn}
+use Rattle.writing.specs.Writings.{accepted, refusesRule, onAccepted, ruleBody, bodyFrom, bodyIn, nlriOctets, inRoom, writtenRule, writtenFrom, writtenIn}
 use Rattle.writing.proofs.Ways.{whole-long, in-standard}
 -- a body by its words: fewer than 64, no frame, a frame; and what a rule that has one shows
 pub use Rattle.writing.proofs.Ways.{few-words, no-frame, by-frame, Shown, shown, head-most}
@@ -144,15 +144,6 @@ module _ (w : Reading) (ws values octets : List ℕ) (s : StoredRule) (e : ruleA
       written-whole w ws values octets room (bodyOctets w l (s .pieces)) (body-as ∙ body-needs w l (s .pieces) t) h
 
 -- ---- in any room
-
-abbrev pub accepted : Answer (List ℕ) → Bool
-accepted (accepts xs) = true
-accepted (declines f) = false
-
--- "refuses by 11, 10 or 7"
-abbrev pub refusesRule : Answer (List ℕ) → Bool
-refusesRule (accepts xs) = false
-refusesRule (declines f) = eqb (f .number) 11 || (eqb (f .number) 10 || eqb (f .number) 7)
 
 -- a body is refused by one of these or not at all
 own-body : (w : Reading) (l : Lent) (ps : List Piece) → refusesRule (bodyOf w l ps) ≡ not (accepted (bodyOf w l ps))
