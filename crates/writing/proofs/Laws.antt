@@ -27,7 +27,7 @@ use Rattle.measuring.proofs.Laws.{Taken, body-needs}
 use Rattle.writing.specs.Writings.{accepted, refusesRule, onAccepted, ruleBody, bodyFrom, bodyIn, nlriOctets, inRoom, writtenRule, writtenFrom, writtenIn}
 use Rattle.writing.proofs.Ways.{whole-long, in-standard}
 -- a body by its words: fewer than 64, no frame, a frame; and what a rule that has one shows
-pub use Rattle.writing.proofs.Ways.{few-words, no-frame, by-frame, Shown, shown, head-most}
+pub use Rattle.writing.proofs.Ways.{few-words, no-frame, by-frame, Shown, shown, length-most}
 
 -- ---- how long what is written is
 

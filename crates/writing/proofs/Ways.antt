@@ -8,7 +8,7 @@ use native.Mathlib.Omega.{arith}
 use borrow.Author.Tests.{lt-ltb, le-ltb}
 use lib.Dec.{ltb}
 use lib.ListN.{length, length-append}
-use lib.Seq.{sets, length-sets}
+use lib.Seq.{sets}
 use Rattle.ground.specs.Answers.{Refused, Answer, accepts, refuses, declines}
 use Rattle.ground.proofs.Answers.{never}
 use Rattle.ground.proofs.Cases.{by-test}
@@ -78,16 +78,12 @@ module _ (w : Reading) (ws values octets xs : List ℕ) where
 -- ---- the output
 
 -- a length takes two octets at most
-pub head-most : (n : ℕ) → length (lengthOctets n) ≤ 2
+pub length-most : (n : ℕ) → length (lengthOctets n) ≤ 2
 unfolding lengthOctets
-head-most n = by-test (ltb n 240) (λ e. rw e (omega arith)) (λ e. rw e (omega arith))
+length-most n = by-test (ltb n 240) (λ e. rw e (omega arith)) (λ e. rw e (omega arith))
 
 pub whole-long : (body : List ℕ) → length (nlriOctets body) ≡ length (lengthOctets (length body)) + length body
 whole-long body = length-append (lengthOctets (length body)) body
-
--- stores keep the length
-pub kept : (l : List ℕ) (at : ℕ) (xs : List ℕ) {r : List ℕ} → r ≡ sets l at xs → length r ≡ length l
-kept l at xs e = ap length e ∙ length-sets l at xs
 
 -- an answer that counts so many octets has them
 pub has-octets : (a : Answer (List ℕ)) (n : ℕ) → counted a ≡ accepts n → (a ≡ accepts (octetsIn a)) × (length (octetsIn a) ≡ n)
