@@ -16,10 +16,10 @@ use Rattle.ground.proofs.Overlays.{sets-append}
 use Rattle.octets.specs.Lengths.{lengthOctets, lengthInto}
 use Rattle.choices.specs.declared.Reading.{Reading}
 use Rattle.choices.specs.Choices.{standardOf}
-use Rattle.stored.specs.Stored.{StoredRule, countAt, firstAt, piecesFrom, recordsFrom, isFramed, isRule, storedAt, ruleAt}
+use Rattle.stored.specs.Stored.{StoredRule, countAt, firstAt, piecesFrom, recordsFrom, isFramed, isRule, ruleAt}
 use Rattle.stored.proofs.Words.{at-outside, at-bad, at-good, framed, rule-framed, by-records, no-frame as unframed}
 use Rattle.stored.proofs.Inverse.{accepted}
-use Rattle.measuring.specs.Bodies.{Lent, lent, bodyOctets}
+use Rattle.measuring.specs.Bodies.{lent, bodyOctets}
 use Rattle.measuring.specs.Grounds.{allTaken, bodyOf, counted}
 use Rattle.measuring.proofs.Laws.{Taken, all-records, body-shows, body-bad}
 use Rattle.writing.specs.Writings.{octetsIn, onAccepted, ruleBody, bodyFrom, bodyIn, nlriOctets, inRoom, writtenFrom, writtenIn}

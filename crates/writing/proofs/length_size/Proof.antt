@@ -1,7 +1,6 @@
 -- `writing::length_size` meets its contract.
 use borrow.Author.Tests.{lt-ltb, le-ltb}
 use Rattle.octets.specs.Lengths.{lengthOctets}
-use borrow.Author.Needs.{needs}
 use Rattle.writing.proofs.length_size.Statement.{statement}
 use Rattle.writing.proofs.length_size.Tie as tie
 use Rattle.writing.proofs.length_size.Reads as reads

@@ -1,5 +1,4 @@
 -- `writing::put` meets its contract: what was measured is a framed rule whose components are taken.
-use Prim.Native.Nat.{ℕ}
 use mathlib.Core.Path.{_≡_, sym}
 use native.Mathlib.Omega.{arith}
 use lib.ListN.{length}

@@ -1,5 +1,5 @@
 -- `writing::write_from` meets its contract: measure, room, put.
-use mathlib.Core.Path.{_≡_, sym, ap, _∙_}
+use mathlib.Core.Path.{sym, ap, _∙_}
 use native.Mathlib.Omega.{arith}
 use lib.ListN.{length}
 use Rattle.measuring.specs.Grounds.{toldMeasured}
