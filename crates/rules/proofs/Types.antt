@@ -1,9 +1,7 @@
--- The list types one by one: what holds of each of 3 to 13 holds of every type between. A list of a type has that type.
+-- The list types one by one: what holds of each of 3 to 13 holds of every type between.
 use Prim.Native.Nat.{ℕ, zero, suc, _+_, _-_, _≤_}
-use mathlib.Core.Path.{_≡_, refl, subst}
+use mathlib.Core.Path.{_≡_, subst}
 use native.Mathlib.Omega.{arith}
-use Rattle.rules.specs.declared.Span.{Span}
-use Rattle.rules.specs.Components.{typeOf, listOf}
 
 module _ (P : ℕ → Type 0) (p3 : P 3) (p4 : P 4) (p5 : P 5) (p6 : P 6) (p7 : P 7) (p8 : P 8) (p9 : P 9) (p10 : P 10) (p11 : P 11) (p12 : P 12) (p13 : P 13) where
   after-two : (k : ℕ) → k ≤ 10 → P (3 + k)
@@ -22,7 +20,3 @@ module _ (P : ℕ → Type 0) (p3 : P 3) (p4 : P 4) (p5 : P 5) (p6 : P 6) (p7 : 
 
   pub each-list : (t : ℕ) → 3 ≤ t → t ≤ 13 → P t
   each-list t l h = let e : 3 + (t - 3) ≡ t = omega arith in subst P e (after-two (t - 3) (omega arith))
-
-pub type-of-list : (s : Span) (t : ℕ) → 3 ≤ t → t ≤ 13 → typeOf (listOf t s) ≡ t
-unfolding listOf
-type-of-list s = each-list (λ (t : ℕ). typeOf (listOf t s) ≡ t) refl refl refl refl refl refl refl refl refl refl refl

@@ -1,10 +1,8 @@
-// A rule: its components and prefixes, their types and kinds (mod.rs). A list component names its operators by a start and a count; the
+// A rule: its components and prefixes, and their types (mod.rs). A list component names its operators by a start and a count; the
 // operators themselves stand in lent lists.
 ghost use mathlib.Core.Path.{_≡_};
 ghost use lib.ListN.{getD};
 ghost use Rattle.rules.specs.Components.{typeOf, bitmaskType, numericType, prefixOf, listOf, prefixCounts, countsAs, holdsOne, covered, componentsOf, componentIn};
-pub use refusals::Fault;
-pub use refusals::FlowSpecError;
 
 // An address with a length. The two forms with an offset are RFC 8956's; the Rust has them as components of their own.
 pub enum NetworkPrefix {
@@ -155,29 +153,29 @@ impl FlowSpecComponent {
 }
 
 // Types 9 and 12 are bitmask lists, 1 and 2 prefixes, the others numeric lists.
-pub fn is_bitmask(kind: u8) -> bool
-    ensures { λ r. ⌜ r ≡ bitmaskType kind ⌝ }
+fn is_bitmask(tag: u8) -> bool
+    ensures { λ r. ⌜ r ≡ bitmaskType tag ⌝ }
 {
-    if kind == 9 {
+    if tag == 9 {
         return true;
     }
-    kind == 12
+    tag == 12
 }
 
-pub fn is_numeric(kind: u8) -> bool
-    ensures { λ r. ⌜ r ≡ numericType kind ⌝ }
+fn is_numeric(tag: u8) -> bool
+    ensures { λ r. ⌜ r ≡ numericType tag ⌝ }
 {
-    if kind < 3 {
+    if tag < 3 {
         return false;
     }
-    !is_bitmask(kind)
+    !is_bitmask(tag)
 }
 
 // The prefix component of a type, 1 or 2.
-pub fn prefix_of(kind: u8, prefix: NetworkPrefix) -> FlowSpecComponent
-    ensures { λ r. ⌜ r ≡ prefixOf kind prefix ⌝ }
+pub fn prefix_of(tag: u8, prefix: NetworkPrefix) -> FlowSpecComponent
+    ensures { λ r. ⌜ r ≡ prefixOf tag prefix ⌝ }
 {
-    if kind == 1 {
+    if tag == 1 {
         FlowSpecComponent::DestinationPrefix(prefix)
     } else {
         FlowSpecComponent::SourcePrefix(prefix)
@@ -185,10 +183,10 @@ pub fn prefix_of(kind: u8, prefix: NetworkPrefix) -> FlowSpecComponent
 }
 
 // The list component of a type, 3 to 13.
-pub fn list_of(kind: u8, span: Span) -> FlowSpecComponent
-    ensures { λ r. ⌜ r ≡ listOf kind span ⌝ }
+pub fn list_of(tag: u8, span: Span) -> FlowSpecComponent
+    ensures { λ r. ⌜ r ≡ listOf tag span ⌝ }
 {
-    match kind {
+    match tag {
         3 => FlowSpecComponent::IpProtocol(span),
         4 => FlowSpecComponent::Port(span),
         5 => FlowSpecComponent::DestinationPort(span),

@@ -1,0 +1,4 @@
+pub mod Components
+pub mod Once
+pub mod Slots
+pub mod Stores
