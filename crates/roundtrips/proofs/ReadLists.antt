@@ -1,63 +1,47 @@
--- The list half of the round trip: a list that the standard writing takes reads back, wherever it stands, and a list that a standard
--- reading accepted can be written.
+-- What a standard reading records of a list that it accepted, the standard writing takes, and writes in as many octets as were read.
 use Prim.Native.Nat.{ℕ, _+_, _/_, _%_}
-use mathlib.Core.Path.{_≡_, refl, _∙_, ap, ap₂}
-use mathlib.Core.Bool.{true, not}
-use mathlib.Core.List.{List, [], _∷_, _++_, map}
+use mathlib.Core.Path.{_≡_, sym, _∙_, ap, ap₂, subst}
+use mathlib.Core.Bool.{Bool, true, not, _&&_, false≢true}
+use mathlib.Core.List.{List, [], _∷_, map}
 use native.Mathlib.Omega.{arith}
-use borrow.Author.Tests.{eqb-false, not-true}
-use lib.Dec.{eqb}
-use lib.ListN.{length}
-use Rattle.ground.proofs.Cases.{both}
+use borrow.Author.Tests.{lt-ltb, le-leb, lt-leb}
+use lib.ListN.{length, getD}
 use Rattle.ground.specs.Answers.{accepts}
+use Rattle.octets.specs.Widths.{widthOf}
 use Rattle.choices.specs.declared.Reading.{Reading}
 use Rattle.choices.specs.declared.Reading.the-variants.{Plain, Ipv4, Ipv6}
-use Rattle.operators.specs.declared.Kind.{Kind}
 use Rattle.choices.specs.Choices.{firstIn}
-use Rattle.operators.specs.Ops.{clearedIn, Op, op, listOctets}
+use Rattle.operators.specs.declared.Kind.{Kind}
+use Rattle.operators.specs.Ops.{kindOf, clearedIn, Op, listOctets}
 use Rattle.lists.specs.declared.Tally.{Tally}
-use Rattle.lists.specs.Lists.{tally, listAt, opsAt, clearedOp, recordedOps}
-use Rattle.lists.proofs.Ends.{list-counts}
-use Rattle.lists.proofs.Records.{recorded-length}
-use Rattle.listwriting.specs.Lists.{ends, takes}
-use Rattle.prefixes.proofs.Accepted.{Octets}
-use Rattle.roundtrips.proofs.ListClears.{first-same, cleared-clear, recorded-ends, recorded-octets}
-use Rattle.roundtrips.proofs.ListChains.{written-list, written-ops, accepted-ends, accepted-long}
--- no reserved bit is left in what is recorded; an operator is written in two octets or more
-pub use Rattle.roundtrips.proofs.ListClears.{recorded-clear, octets-least}
+use Rattle.lists.specs.Lists.{operatorAt, listAt, opsAt, clearedOp, firstOp, recordedOps}
+use Rattle.lists.proofs.Laws.{taken, Chain, last, more, list-chain, recorded-first}
+use Rattle.listwriting.specs.Lists.{fitsIn, ends, takes}
+use Rattle.listwriting.proofs.Laws.{ends-none, ends-last, ends-more, takes-by}
+use Rattle.prefixes.proofs.Accepted.{Octets, value-lt}
+use Rattle.measuring.proofs.Laws.{Standard}
+use Rattle.roundtrips.proofs.Operators.{octets-none, octets-more}
+use Rattle.roundtrips.proofs.Clearing.{recorded-ends, recorded-octets}
 
--- a reading that clears AND on a list's first operator
-abbrev pub Standard : Reading → Type 0
-Standard Plain = ⊥
-Standard Ipv4 = Unit {0}
-Standard Ipv6 = Unit {0}
+-- the value of an operator that is taken has as many octets as its octet says
+op-fits : (r : Reading) (t : ℕ) (s : List ℕ) (at : ℕ) {o : Op} → Octets s → operatorAt r t s at ≡ accepts o → fitsIn (o .octet) (o .value) ≡ true
+op-fits r t s at h e =
+    let w = taken r t s at e in
+    subst (λ (o : Op). fitsIn (o .octet) (o .value) ≡ true) (sym (w .is))
+    (lt-ltb _ _ (value-lt s (at + 1) (widthOf (getD s at 0)) h (omega (arith, w .within))))
 
--- what the writing takes has no AND first and ends well
-taken-ends : (os : List Op) → takes os ≡ true → ends os ≡ true
-unfolding takes
-taken-ends [] d = let z : _≡_ {A = ℕ} 0 1 = cc in absurd (omega arith)
-taken-ends (o ∷ os) d = both (not (eqb (o .octet % 128 / 64) 1)) (ends (o ∷ os)) d .1
+-- each value fits, and the last alone has the end mark
+chain-ends : {r : Reading} {t : ℕ} {s : List ℕ} {at to : ℕ} {os : List Op} → Octets s → Chain r t s at os to → ends os ≡ true
+chain-ends {r} {t} {s} h (last {at = at} {o = o} e b) = ends-last o ∙ ap₂ (λ (x y : Bool). x && y) (op-fits r t s at h e) (le-leb _ _ b)
+chain-ends {r} {t} {s} h (more {at = at} {o = o} e b (last {o = p} f c)) =
+    ends-more o p [] ∙ ap₂ (λ (x y : Bool). x && y) (op-fits r t s at h e) (ap₂ (λ (x y : Bool). not x && y) (lt-leb _ _ b) (chain-ends h (last f c)))
+chain-ends {r} {t} {s} h (more {at = at} {o = o} e b (more {o = p} {os = os} f c d)) =
+    ends-more o p os ∙ ap₂ (λ (x y : Bool). x && y) (op-fits r t s at h e) (ap₂ (λ (x y : Bool). not x && y) (lt-leb _ _ b) (chain-ends h (more f c d)))
 
-taken-first : (o : Op) (os : List Op) → takes (o ∷ os) ≡ true → o .octet % 128 / 64 ≡ 1 → ⊥
-unfolding takes
-taken-first o os d = eqb-false (o .octet % 128 / 64) 1 (not-true (eqb (o .octet % 128 / 64) 1) (both (not (eqb (o .octet % 128 / 64) 1)) (ends (o ∷ os)) d .0))
-
--- a written list reads back whole, in every reading
-pub list-back : (r : Reading) (k : Kind) (os : List Op) → takes os ≡ true → (xs ys : List ℕ)
-    → listAt r k (xs ++ (listOctets k os ++ ys)) (length xs) ≡ accepts (tally (length os) (length xs + length (listOctets k os)))
-list-back r k os d xs ys = written-list r k os (taken-ends os d) xs ys
-
--- what is recorded of a cleared list without AND first is that list
-cleared-recorded : (r : Reading) (k : Kind) (os : List Op) → takes os ≡ true → recordedOps r k (map (clearedOp k) os) ≡ map (clearedOp k) os
-unfolding recordedOps
-cleared-recorded r k [] d = refl
-cleared-recorded r k (o ∷ os) d = ap₂ (λ (x : ℕ) (l : List Op). op x (o .value) ∷ l) (first-same r k (o .octet) (taken-first o os d)) (cleared-clear k os)
-
--- and what is recorded of it is the list with its reserved bits cleared
-pub recorded-back : (r : Reading) (k : Kind) (os : List Op) → takes os ≡ true → (xs ys : List ℕ)
-    → recordedOps r k (opsAt (xs ++ (listOctets k os ++ ys)) (length xs)) ≡ map (clearedOp k) os
-recorded-back r k os d xs ys =
-    ap (recordedOps r k) (written-ops r k os (taken-ends os d) xs ys) ∙ cleared-recorded r k os d
+-- it is written in as many octets as it has
+chain-long : {r : Reading} {t : ℕ} {s : List ℕ} {at to : ℕ} {os : List Op} (k : Kind) → Chain r t s at os to → at + length (listOctets k os) ≡ to
+chain-long k (last {o = o} e b) = let z : length (listOctets k []) ≡ 0 = ap length (octets-none k) in omega (arith, octets-more k o [])
+chain-long k (more {o = o} {os = os} e b c) = omega (arith, octets-more k o os, chain-long k c)
 
 -- a first octet has no AND in the standard readings
 first-none : (r : Reading) → Standard r → (x : ℕ) → firstIn r x % 128 / 64 ≡ 0
@@ -65,21 +49,16 @@ first-none Plain h x = absurd h
 first-none Ipv4 h x = omega arith
 first-none Ipv6 h x = omega arith
 
-recorded-takes : (r : Reading) → Standard r → (k : Kind) (os : List Op) → ends os ≡ true → takes (recordedOps r k os) ≡ true
-unfolding takes ends recordedOps
-recorded-takes r h k [] d = let z : _≡_ {A = ℕ} 0 1 = cc in absurd (omega arith)
-recorded-takes r h k (o ∷ os) d = rw (first-none r h (clearedIn k (o .octet))) (recorded-ends r k (o ∷ os) ∙ d)
+recorded-takes : (r : Reading) → Standard r → (t : ℕ) (os : List Op) → ends os ≡ true → takes (recordedOps r t os) ≡ true
+recorded-takes r h t [] d = absurd (false≢true (sym ends-none ∙ d))
+recorded-takes r h t (o ∷ os) d =
+    let k = kindOf t in
+    let n = first-none r h (clearedIn k (o .octet)) in
+    ap takes (recorded-first r t o os) ∙ takes-by (firstOp r (clearedOp k o)) (map (clearedOp k) os) (λ z. omega (arith, n, z)) ∙ recorded-ends r k o os ∙ d
 
--- what a standard reading records of a list that it accepted, the standard writing takes
-pub recorded-taken : (r : Reading) → Standard r → (k : Kind) (s : List ℕ) (at : ℕ) {t : Tally} → Octets s → listAt r k s at ≡ accepts t
-    → takes (recordedOps r k (opsAt s at)) ≡ true
-recorded-taken r h k s at o e = recorded-takes r h k (opsAt s at) (accepted-ends r k s at e o)
+module _ (r : Reading) (t : ℕ) (s : List ℕ) (at : ℕ) {l : Tally} (e : listAt r t s at ≡ accepts l) where
+  pub recorded-taken : Standard r → Octets s → takes (recordedOps r t (opsAt s at)) ≡ true
+  recorded-taken st o = recorded-takes r st t (opsAt s at) (chain-ends o (list-chain r t s at e))
 
--- as many operators as were counted
-pub recorded-count : (r : Reading) (k : Kind) (s : List ℕ) (at : ℕ) {t : Tally} → listAt r k s at ≡ accepts t → length (recordedOps r k (opsAt s at)) ≡ t .count
-recorded-count r k s at e = recorded-length r k (opsAt s at) ∙ list-counts r k s at e
-
--- written in as many octets as were read
-pub recorded-long : (r : Reading) (k : Kind) (s : List ℕ) (at : ℕ) {t : Tally} → listAt r k s at ≡ accepts t
-    → at + length (listOctets k (recordedOps r k (opsAt s at))) ≡ t .next .at
-recorded-long r k s at e = ap (λ (n : ℕ). at + n) (recorded-octets r k (opsAt s at)) ∙ accepted-long r k s at e
+  pub recorded-long : at + length (listOctets (kindOf t) (recordedOps r t (opsAt s at))) ≡ l .next .at
+  recorded-long = ap (λ (n : ℕ). at + n) (recorded-octets r t (opsAt s at)) ∙ chain-long (kindOf t) (list-chain r t s at e)
