@@ -1,26 +1,27 @@
 -- What clearing reserved bits, and AND on a first operator, keeps of an operator: its width and its end mark; so whether a list ends well and
 -- how many octets write it stay.
-use Prim.Native.Nat.{ℕ, _+_, _*_, _/_, _%_, _^_, _≤_}
+use Prim.Native.Nat.{ℕ, _+_, _*_, _/_, _%_, _^_}
 use mathlib.Core.Path.{_≡_, refl, sym, _∙_, ap, ap₂}
-use mathlib.Core.Bool.{false, not}
+use mathlib.Core.Bool.{Bool, false, not, _&&_}
 use mathlib.Core.List.{List, [], _∷_, map}
 use native.Mathlib.Omega.{arith}
 use native.Mathlib.Decide.{decLt}
 use borrow.Author.Tests.{le-leb, lt-leb, leb-true, leb-false, ne-eqb, eq-eqb}
 use lib.Dec.{leb, ltb}
-use lib.ListN.{length, length-append, getD}
+use lib.ListN.{length, getD}
 use Rattle.ground.proofs.Cases.{by-cases, by-test}
 use Rattle.octets.specs.Widths.{widths, codeIn, widthOf}
-use Rattle.octets.proofs.Spells.{length-spelled}
-use Rattle.octets.proofs.Widths.{width-least}
 use Rattle.choices.specs.declared.Reading.{Reading}
 use Rattle.choices.specs.declared.Reading.the-variants.{Plain, Ipv4, Ipv6}
 use Rattle.operators.specs.declared.Kind.{Kind}
 use Rattle.operators.specs.declared.Kind.the-variants.{Numeric, Bitmask}
 use Rattle.choices.specs.Choices.{refusedIn, firstIn}
-use Rattle.operators.specs.Ops.{clearedIn, Op, op, opOctets, listOctets}
+use Rattle.operators.specs.Ops.{kindOf, clearedIn, Op, op, listOctets}
 use Rattle.lists.specs.Lists.{clearedOp, firstOp, recordedOps}
+use Rattle.lists.proofs.Laws.{recorded-none, recorded-first}
 use Rattle.listwriting.specs.Lists.{fitsIn, ends}
+use Rattle.listwriting.proofs.Laws.{ends-last, ends-more}
+use Rattle.roundtrips.proofs.Operators.{octets-more}
 
 -- ---- octets
 
@@ -106,38 +107,36 @@ first-same r k x h =
 
 -- ---- lists
 
-cleared-fits : (k : Kind) (o : Op) → fitsIn (clearedIn k (o .octet)) (o .value) ≡ fitsIn (o .octet) (o .value)
-cleared-fits k o = ap (λ (w : ℕ). ltb (o .value) (2 ^ (8 * w))) (cleared-width k (o .octet))
+-- an operator with the width, the end mark and the value of another
+record Alike (o p : Op) : Type 0 where
+  pub fits : fitsIn (o .octet) (o .value) ≡ fitsIn (p .octet) (p .value)
+  pub mark : leb 128 (o .octet) ≡ leb 128 (p .octet)
 
-first-fits : (r : Reading) (o : Op) → fitsIn (firstIn r (o .octet)) (o .value) ≡ fitsIn (o .octet) (o .value)
-first-fits r o = ap (λ (w : ℕ). ltb (o .value) (2 ^ (8 * w))) (first-width r (o .octet))
+cleared-alike : (k : Kind) (o : Op) → Alike (clearedOp k o) o
+cleared-alike k o = record { fits = ap (λ (w : ℕ). ltb (o .value) (2 ^ (8 * w))) (cleared-width k (o .octet)); mark = cleared-mark k (o .octet) }
+
+first-alike : (r : Reading) (o : Op) → Alike (firstOp r o) o
+first-alike r o = record { fits = ap (λ (w : ℕ). ltb (o .value) (2 ^ (8 * w))) (first-width r (o .octet)); mark = first-mark r (o .octet) }
+
+last-alike : (o p : Op) → Alike o p → ends (o ∷ []) ≡ ends (p ∷ [])
+last-alike o p h = ends-last o ∙ ap₂ (λ (a b : Bool). a && b) (h .fits) (h .mark) ∙ sym (ends-last p)
+
+more-alike : (o p i j : Op) (os qs : List Op) → Alike o p → ends (i ∷ os) ≡ ends (j ∷ qs) → ends (o ∷ i ∷ os) ≡ ends (p ∷ j ∷ qs)
+more-alike o p i j os qs h e =
+    ends-more o i os ∙ ap₂ (λ (a b : Bool). a && b) (h .fits) (ap₂ (λ (a b : Bool). not a && b) (h .mark) e) ∙ sym (ends-more p j qs)
 
 cleared-ends : (k : Kind) (os : List Op) → ends (map (clearedOp k) os) ≡ ends os
-unfolding ends
 cleared-ends k [] = refl
-cleared-ends k (o ∷ []) = rw (cleared-fits k o, cleared-mark k (o .octet))
-cleared-ends k (o ∷ p ∷ os) = rw (cleared-fits k o, cleared-mark k (o .octet), cleared-ends k (p ∷ os))
+cleared-ends k (o ∷ []) = last-alike (clearedOp k o) o (cleared-alike k o)
+cleared-ends k (o ∷ p ∷ os) = more-alike (clearedOp k o) o (clearedOp k p) p (map (clearedOp k) os) os (cleared-alike k o) (cleared-ends k (p ∷ os))
 
 first-ends : (r : Reading) (o : Op) (os : List Op) → ends (firstOp r o ∷ os) ≡ ends (o ∷ os)
-unfolding ends
-first-ends r o [] = rw (first-fits r o, first-mark r (o .octet))
-first-ends r o (p ∷ os) = rw (first-fits r o, first-mark r (o .octet))
+first-ends r o [] = last-alike (firstOp r o) o (first-alike r o)
+first-ends r o (p ∷ os) = more-alike (firstOp r o) o p p os os (first-alike r o) refl
 
 -- what is recorded ends as the list does
-pub recorded-ends : (r : Reading) (k : Kind) (os : List Op) → ends (recordedOps r k os) ≡ ends os
-unfolding recordedOps
-recorded-ends r k [] = refl
-recorded-ends r k (o ∷ os) = first-ends r (clearedOp k o) (map (clearedOp k) os) ∙ cleared-ends k (o ∷ os)
-
--- one operator's octets before those of the others
-pub octets-more : (k : Kind) (o : Op) (os : List Op) → length (listOctets k (o ∷ os)) ≡ 1 + widthOf (o .octet) + length (listOctets k os)
-unfolding listOctets
-octets-more k o os = omega (arith, length-append (opOctets k o) (listOctets k os), length-spelled (widthOf (o .octet)) (o .value))
-
--- an operator is written in two octets or more
-pub octets-least : (k : Kind) (os : List Op) → 2 * length os ≤ length (listOctets k os)
-octets-least k [] = omega arith
-octets-least k (o ∷ os) = omega (arith, octets-more k o os, width-least (o .octet), octets-least k os)
+pub recorded-ends : (r : Reading) (k : Kind) (o : Op) (os : List Op) → ends (firstOp r (clearedOp k o) ∷ map (clearedOp k) os) ≡ ends (o ∷ os)
+recorded-ends r k o os = first-ends r (clearedOp k o) (map (clearedOp k) os) ∙ cleared-ends k (o ∷ os)
 
 cleared-long : (k : Kind) (os : List Op) → length (listOctets k (map (clearedOp k) os)) ≡ length (listOctets k os)
 cleared-long k [] = refl
@@ -145,20 +144,25 @@ cleared-long k (o ∷ os) =
     omega (arith, octets-more k (clearedOp k o) (map (clearedOp k) os), octets-more k o os, cleared-width k (o .octet), cleared-long k os)
 
 -- as many octets write what is recorded as the list
-pub recorded-octets : (r : Reading) (k : Kind) (os : List Op) → length (listOctets k (recordedOps r k os)) ≡ length (listOctets k os)
-unfolding recordedOps
-recorded-octets r k [] = refl
-recorded-octets r k (o ∷ os) =
+pub recorded-octets : (r : Reading) (t : ℕ) (os : List Op) → length (listOctets (kindOf t) (recordedOps r t os)) ≡ length (listOctets (kindOf t) os)
+recorded-octets r t [] = ap (λ (l : List Op). length (listOctets (kindOf t) l)) (recorded-none r t)
+recorded-octets r t (o ∷ os) =
+    let k = kindOf t in
     let a = octets-more k (firstOp r (clearedOp k o)) (map (clearedOp k) os) in
     let b = octets-more k (clearedOp k o) (map (clearedOp k) os) in
-    omega (arith, a, b, first-width r (clearedIn k (o .octet)), cleared-long k (o ∷ os))
+    let c : length (listOctets k (firstOp r (clearedOp k o) ∷ map (clearedOp k) os)) ≡ length (listOctets k (o ∷ os)) =
+    omega (arith, a, b, first-width r (clearedIn k (o .octet)), cleared-long k (o ∷ os)) in
+    ap (λ (l : List Op). length (listOctets k l)) (recorded-first r t o os) ∙ c
 
 pub cleared-clear : (k : Kind) (os : List Op) → map (clearedOp k) (map (clearedOp k) os) ≡ map (clearedOp k) os
 cleared-clear k [] = refl
 cleared-clear k (o ∷ os) = ap₂ (λ (x : ℕ) (l : List Op). op x (o .value) ∷ l) (cleared-twice k (o .octet)) (cleared-clear k os)
 
 -- no reserved bit is left in what is recorded
-pub recorded-clear : (r : Reading) (k : Kind) (os : List Op) → map (clearedOp k) (recordedOps r k os) ≡ recordedOps r k os
-unfolding recordedOps
-recorded-clear r k [] = refl
-recorded-clear r k (o ∷ os) = ap₂ (λ (x : ℕ) (l : List Op). op x (o .value) ∷ l) (first-clear r k (o .octet)) (cleared-clear k os)
+pub recorded-clear : (r : Reading) (t : ℕ) (os : List Op) → map (clearedOp (kindOf t)) (recordedOps r t os) ≡ recordedOps r t os
+recorded-clear r t [] = ap (map (clearedOp (kindOf t))) (recorded-none r t) ∙ sym (recorded-none r t)
+recorded-clear r t (o ∷ os) =
+    let k = kindOf t in
+    ap (map (clearedOp k)) (recorded-first r t o os)
+    ∙ ap₂ (λ (x : ℕ) (l : List Op). op x (o .value) ∷ l) (first-clear r k (o .octet)) (cleared-clear k os)
+    ∙ sym (recorded-first r t o os)
