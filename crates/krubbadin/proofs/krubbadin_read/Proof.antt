@@ -13,33 +13,6 @@ use Rattle.krubbadin.proofs.read_answer.Reads as read-answer-reads
 use Rattle.krubbadin.proofs.refused.Reads as refused-reads
 use Rattle.reading.proofs.read_into.Reads as read-into-reads
 
-named-by-requires : tie.Need-named-by-requires
-named-by-requires c κs = search needs
-
-enum-known-reading : tie.Need-enum-known-reading
-enum-known-reading c = search needs
-
-read-into-requires : tie.Need-read-into-requires
-read-into-requires c κs = search needs
-
-read-answer-requires : tie.Need-read-answer-requires
-read-answer-requires c κs = search needs
-
-enum-known-fault : tie.Need-enum-known-fault
-enum-known-fault c = search needs
-
-refused-requires : tie.Need-refused-requires
-refused-requires c κs = search needs
-
-same-length : tie.Need-same-length
-same-length c = search needs
-
-same-length-2 : tie.Need-same-length-2
-same-length-2 c = search needs
-
-same-length-3 : tie.Need-same-length-3
-same-length-3 c = search needs
-
 returns : tie.Need-returns
 returns c =
     let u = c .before .before .before .before .before .before .before in
@@ -63,14 +36,14 @@ pub krubbadin-read-spec : {M : Type 1} → statement M
 krubbadin-read-spec =
     tie.close
     (tie.spec
-    named-by-requires
-    enum-known-reading
-    read-into-requires
-    read-answer-requires
-    enum-known-fault
-    refused-requires
-    same-length
-    same-length-2
-    same-length-3
+    (λ c κs. search needs)
+    (λ c. search needs)
+    (λ c κs. search needs)
+    (λ c κs. search needs)
+    (λ c. search needs)
+    (λ c κs. search needs)
+    (λ c. search needs)
+    (λ c. search needs)
+    (λ c. search needs)
     returns
     returns-2)

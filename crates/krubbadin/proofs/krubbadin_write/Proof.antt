@@ -13,27 +13,6 @@ use Rattle.krubbadin.proofs.refused.Reads as refused-reads
 use Rattle.krubbadin.proofs.write_answer.Reads as write-answer-reads
 use Rattle.writing.proofs.write_from.Reads as write-from-reads
 
-named-by-requires : tie.Need-named-by-requires
-named-by-requires c κs = search needs
-
-enum-known-writing : tie.Need-enum-known-writing
-enum-known-writing c = search needs
-
-write-from-requires : tie.Need-write-from-requires
-write-from-requires c κs = search needs
-
-write-answer-requires : tie.Need-write-answer-requires
-write-answer-requires c κs = search needs
-
-enum-known-fault : tie.Need-enum-known-fault
-enum-known-fault c = search needs
-
-refused-requires : tie.Need-refused-requires
-refused-requires c κs = search needs
-
-same-length : tie.Need-same-length
-same-length c = search needs
-
 returns : tie.Need-returns
 returns c =
     let u = c .before .before .before in
@@ -57,12 +36,12 @@ pub krubbadin-write-spec : {M : Type 1} → statement M
 krubbadin-write-spec =
     tie.close
     (tie.spec
-    named-by-requires
-    enum-known-writing
-    write-from-requires
-    write-answer-requires
-    enum-known-fault
-    refused-requires
-    same-length
+    (λ c κs. search needs)
+    (λ c. search needs)
+    (λ c κs. search needs)
+    (λ c κs. search needs)
+    (λ c. search needs)
+    (λ c κs. search needs)
+    (λ c. search needs)
     returns
     returns-2)

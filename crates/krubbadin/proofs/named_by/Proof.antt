@@ -10,12 +10,11 @@ returns : tie.Need-returns
 unfolding whichOf
 returns c = simp (eq-eqb _ _ (c .if1 .taken))
 
-reading-of-requires : tie.Need-reading-of-requires
-reading-of-requires c κs = search needs
-
 returns-2 : tie.Need-returns-2
 unfolding whichOf
 returns-2 c = simp (ne-eqb _ _ (c .before .if1 .left)) (c .reading-of .ensures)
 
 pub named-by-spec : {M : Type 1} → statement M
-named-by-spec = tie.close (tie.spec returns reading-of-requires returns-2)
+named-by-spec = tie.close (tie.spec returns
+    (λ c κs. search needs)
+    returns-2)

@@ -20,9 +20,6 @@ Inv-loop kind values octets from count out₀ at to p₀ q₀ out p q = Put kind
 abbrev μ-loop : tie.MeasureT-loop
 μ-loop kind values octets from count out₀ at to p₀ q₀ out p q = to - q
 
-add-to : tie.Need-add-to Inv-loop μ-loop
-add-to c = search needs
-
 loop-holds : tie.Need-loop-holds Inv-loop μ-loop
 loop-holds c = put-first _ _ _ _ _ _ _ (omega arith)
 
@@ -57,7 +54,7 @@ put-list-spec =
     (tie.spec
     Inv-loop
     μ-loop
-    add-to
+    (λ c. search needs)
     loop-holds
     put-same-requires
     loop-less

@@ -28,8 +28,8 @@ size-requires c κs =
     let b = inside-both (lent (a .values .now) (a .octets .now) (a .first)) (a .start) (a .count) (c .if1 .left) (s .pre .0) in
     (omega (arith, b .1), omega (arith, s .pre .1))
 
-returns-2 : tie.Need-returns-2
-returns-2 c = search needs
-
 pub plain-size-spec : {M : Type 1} → statement M
-plain-size-spec = tie.close (tie.spec returns add-size size-requires returns-2)
+plain-size-spec = tie.close (tie.spec returns
+    add-size
+    size-requires
+    (λ c. search needs))

@@ -8,27 +8,6 @@ use borrow.Author.Needs.{needs}
 use Rattle.nlri.proofs.encode_flowspec_nlri.Statement.{statement}
 use Rattle.nlri.proofs.encode_flowspec_nlri.Tie as tie
 
-slice-aggregate-put-rule : tie.Need-slice-aggregate-put-rule
-slice-aggregate-put-rule c = search needs
-
-put-rule-requires : tie.Need-put-rule-requires
-put-rule-requires c κs = search needs
-
-enum-told : tie.Need-enum-told
-enum-told c = search needs
-
-slice-aggregate-write-from : tie.Need-slice-aggregate-write-from
-slice-aggregate-write-from c = search needs
-
-write-from-requires : tie.Need-write-from-requires
-write-from-requires c κs = search needs
-
-enum-known-stored : tie.Need-enum-known-stored
-enum-known-stored c = search needs
-
-same-length : tie.Need-same-length
-same-length c = search needs
-
 returns : tie.Need-returns
 returns c =
     let d = c .before .before .before .before .before in
@@ -48,12 +27,12 @@ pub encode-flowspec-nlri-spec : {M : Type 1} → statement M
 encode-flowspec-nlri-spec =
     tie.close
     (tie.spec
-    slice-aggregate-put-rule
-    put-rule-requires
-    enum-told
-    slice-aggregate-write-from
-    write-from-requires
-    enum-known-stored
-    same-length
+    (λ c. search needs)
+    (λ c κs. search needs)
+    (λ c. search needs)
+    (λ c. search needs)
+    (λ c κs. search needs)
+    (λ c. search needs)
+    (λ c. search needs)
     returns
     returns-2)

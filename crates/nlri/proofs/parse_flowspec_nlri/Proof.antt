@@ -16,24 +16,6 @@ use Rattle.nlri.proofs.parse_flowspec_nlri.Lts as lts
 use Rattle.reading.proofs.read_into.Reads as read-into-reads
 use Rattle.nlri.proofs.rule_at.Reads as rule-at-reads
 
-slice-aggregate-read-into : tie.Need-slice-aggregate-read-into
-slice-aggregate-read-into c = search needs
-
-read-into-requires : tie.Need-read-into-requires
-read-into-requires c κs = search needs
-
-slice-aggregate-rule-at : tie.Need-slice-aggregate-rule-at
-slice-aggregate-rule-at c = search needs
-
-rule-at-requires : tie.Need-rule-at-requires
-rule-at-requires c κs = search needs
-
-same-length : tie.Need-same-length
-same-length c = search needs
-
-same-length-2 : tie.Need-same-length-2
-same-length-2 c = search needs
-
 returns : tie.Need-returns
 returns c =
     let k = c .before in
@@ -47,10 +29,10 @@ pub parse-flowspec-nlri-spec : {M : Type 1} → statement M
 parse-flowspec-nlri-spec =
     tie.close
     (tie.spec
-    slice-aggregate-read-into
-    read-into-requires
-    slice-aggregate-rule-at
-    rule-at-requires
-    same-length
-    same-length-2
+    (λ c. search needs)
+    (λ c κs. search needs)
+    (λ c. search needs)
+    (λ c κs. search needs)
+    (λ c. search needs)
+    (λ c. search needs)
     returns)

@@ -12,25 +12,13 @@ use Rattle.stored.proofs.list_in.Reads as list-in-reads
 use Rattle.stored.proofs.prefix_at.Reads as prefix-at-reads
 use Rattle.stored.proofs.quad_at.Reads as quad-at-reads
 
-quad-at-requires : tie.Need-quad-at-requires
-quad-at-requires c κs = search needs
-
-cast-tag : tie.Need-cast-tag
-cast-tag c = search needs
-
 returns : tie.Need-returns
 unfolding pieceAt
 returns c = piece-none (c .before .before .before .quad-at .result) (c .if2 .taken) ∙ ap pieceOf (c .before .before .before .quad-at .ensures)
 
-prefix-at-requires : tie.Need-prefix-at-requires
-prefix-at-requires c κs = search needs
-
 returns-2 : tie.Need-returns-2
 unfolding pieceAt
 returns-2 c = c .prefix-at .ensures ∙ ap pieceOf (c .before .before .before .before .quad-at .ensures)
-
-list-in-requires : tie.Need-list-in-requires
-list-in-requires c κs = search needs
 
 returns-3 : tie.Need-returns-3
 unfolding pieceAt
@@ -40,10 +28,10 @@ pub piece-at-spec : {M : Type 1} → statement M
 piece-at-spec =
     tie.close
     (tie.spec
-    quad-at-requires
-    cast-tag
+    (λ c κs. search needs)
+    (λ c. search needs)
     returns
-    prefix-at-requires
+    (λ c κs. search needs)
     returns-2
-    list-in-requires
+    (λ c κs. search needs)
     returns-3)

@@ -7,12 +7,6 @@ use Rattle.stored.proofs.prefix_at.Reads as reads
 use Rattle.stored.proofs.prefix_at.Lts as lts
 use Rattle.stored.proofs.prefix_in.Reads as prefix-in-reads
 
-cast-t7 : tie.Need-cast-t7
-cast-t7 c = search needs
-
-cast-t8 : tie.Need-cast-t8
-cast-t8 c = search needs
-
 returns : tie.Need-returns
 returns c =
     let four = c .before .before in
@@ -22,11 +16,9 @@ returns c =
     let g = one .before .before in
     ipv4-words (g .args .q) (g .args .tag) (g .pre .0) (g .pre .1) (g .pre .2) (one .if1 .taken) (two .if2 .taken) (three .if3 .taken) (four .if4 .taken)
 
-prefix-in-requires : tie.Need-prefix-in-requires
-prefix-in-requires c κs = search needs
-
-returns-2 : tie.Need-returns-2
-returns-2 c = search needs
-
 pub prefix-at-spec : {M : Type 1} → statement M
-prefix-at-spec = tie.close (tie.spec cast-t7 cast-t8 returns prefix-in-requires returns-2)
+prefix-at-spec = tie.close (tie.spec (λ c. search needs)
+    (λ c. search needs)
+    returns
+    (λ c κs. search needs)
+    (λ c. search needs))

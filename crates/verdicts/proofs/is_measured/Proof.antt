@@ -5,15 +5,6 @@ use borrow.Author.Needs.{needs}
 use Rattle.verdicts.proofs.is_measured.Statement.{statement}
 use Rattle.verdicts.proofs.is_measured.Tie as tie
 
-measure-requires : tie.Need-measure-requires
-measure-requires c κs = search needs
-
-enum-told : tie.Need-enum-told
-enum-told c = search needs
-
-enum-told-2 : tie.Need-enum-told-2
-enum-told-2 c = search needs
-
 returns : tie.Need-returns
 returns c =
     let m = c .before .before in
@@ -27,4 +18,8 @@ returns-2 c =
     as-told (bodyFrom (a .writing) (a .words .now) (a .values .now) (a .octets .now)) _ _ (c .enum-told2 .given .1) (m .measure .ensures)
 
 pub is-measured-spec : {M : Type 1} → statement M
-is-measured-spec = tie.close (tie.spec measure-requires enum-told enum-told-2 returns returns-2)
+is-measured-spec = tie.close (tie.spec (λ c κs. search needs)
+    (λ c. search needs)
+    (λ c. search needs)
+    returns
+    returns-2)

@@ -12,15 +12,9 @@ use borrow.Author.Needs.{needs}
 use Rattle.verdicts.proofs.matches.Statement.{statement}
 use Rattle.verdicts.proofs.matches.Tie as tie
 
-check-words-requires : tie.Need-check-words-requires
-check-words-requires c κs = search needs
-
 returns : tie.Need-returns
 unfolding matchVerdict
 returns c = rw (sym (c .before .check-words .ensures) ∙ not-true _ (c .if1 .taken))
-
-well-formed-requires : tie.Need-well-formed-requires
-well-formed-requires c κs = search needs
 
 -- past the test of the packet
 in-range : (c : tie.Else1) → packetOk (packetAt (c .before .before .before .before .before .before .args .packet .now)) ≡ true
@@ -73,9 +67,9 @@ pub matches-spec : {M : Type 1} → statement M
 matches-spec =
     tie.close
     (tie.spec
-    check-words-requires
+    (λ c κs. search needs)
     returns
-    well-formed-requires
+    (λ c κs. search needs)
     returns-2
     family-at-requires
     family-of-requires

@@ -11,9 +11,6 @@ use borrow.Author.Needs.{needs}
 use Rattle.verdicts.proofs.rank.Statement.{statement}
 use Rattle.verdicts.proofs.rank.Tie as tie
 
-well-formed-requires : tie.Need-well-formed-requires
-well-formed-requires c κs = search needs
-
 returns : tie.Need-returns
 unfolding rankVerdict
 returns c = rw (sym (c .before .well-formed .ensures) ∙ not-true _ (c .if1 .taken))
@@ -34,9 +31,6 @@ ready2 : (c : tie.Else2) → let g = c .before .before .before .before .before .
 ready2 c =
     let g = c .before .before .before .before .before .before .before .before .before .before .args in
     rankable (g .words2 .now) (g .values2 .now) (g .octets2 .now) 0 (formed2 c)
-
-well-formed-requires-2 : tie.Need-well-formed-requires-2
-well-formed-requires-2 c κs = search needs
 
 returns-2 : tie.Need-returns-2
 unfolding rankVerdict
@@ -73,9 +67,9 @@ pub rank-spec : {M : Type 1} → statement M
 rank-spec =
     tie.close
     (tie.spec
-    well-formed-requires
+    (λ c κs. search needs)
     returns
-    well-formed-requires-2
+    (λ c κs. search needs)
     returns-2
     family-at-requires
     family-at-requires-2

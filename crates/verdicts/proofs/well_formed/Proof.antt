@@ -18,36 +18,6 @@ returns-2 c =
     let a = c .before .before .before .before .before .args in
     few-left (a .words .now) (a .values .now) (a .octets .now) (a .at) (c .if2 .taken)
 
-family-at-requires : tie.Need-family-at-requires
-family-at-requires c κs = search needs
-
-cast-reading-of : tie.Need-cast-reading-of
-cast-reading-of c = search needs
-
-reading-of-requires : tie.Need-reading-of-requires
-reading-of-requires c κs = search needs
-
-enum-known-standard : tie.Need-enum-known-standard
-enum-known-standard c = search needs
-
-mul-is-measured : tie.Need-mul-is-measured
-mul-is-measured c = search needs
-
-sub-is-measured : tie.Need-sub-is-measured
-sub-is-measured c = search needs
-
-part-is-measured-start : tie.Need-part-is-measured-start
-part-is-measured-start c = search needs
-
-part-is-measured-end : tie.Need-part-is-measured-end
-part-is-measured-end c = search needs
-
-is-measured-requires : tie.Need-is-measured-requires
-is-measured-requires c κs = search needs
-
-enum-told : tie.Need-enum-told
-enum-told c = search needs
-
 returns-3 : tie.Need-returns-3
 returns-3 c =
     let k = c .before .before .before in
@@ -72,15 +42,15 @@ well-formed-spec =
     (tie.spec
     returns
     returns-2
-    family-at-requires
-    cast-reading-of
-    reading-of-requires
-    enum-known-standard
-    mul-is-measured
-    sub-is-measured
-    part-is-measured-start
-    part-is-measured-end
-    is-measured-requires
-    enum-told
+    (λ c κs. search needs)
+    (λ c. search needs)
+    (λ c κs. search needs)
+    (λ c. search needs)
+    (λ c. search needs)
+    (λ c. search needs)
+    (λ c. search needs)
+    (λ c. search needs)
+    (λ c κs. search needs)
+    (λ c. search needs)
     returns-3
     returns-4)

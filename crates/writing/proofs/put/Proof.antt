@@ -16,9 +16,6 @@ use Rattle.stored.proofs.first_at.Reads as first-at-reads
 use Rattle.writing.proofs.length_size.Reads as length-size-reads
 use Rattle.writing.proofs.put_body.Reads as put-body-reads
 
-encode-length-requires : tie.Need-encode-length-requires
-encode-length-requires c κs = search needs
-
 count-at-requires : tie.Need-count-at-requires
 count-at-requires c κs =
     let s = c .before .before .before .before .before .before .before .before in
@@ -30,9 +27,6 @@ first-at-requires c κs =
     let s = c .before .before .before .before .before .before .before .before .before in
     let a = s .args in
     measured-shows (a .writing) (a .words .now) (a .values .now) (a .octets .now) (a .body) (sym (s .pre .0)) .whole
-
-length-size-requires : tie.Need-length-size-requires
-length-size-requires c κs = search needs
 
 put-body-requires : tie.Need-put-body-requires
 put-body-requires c κs =
@@ -50,9 +44,6 @@ put-body-requires c κs =
       ),
     )
 
-same-length : tie.Need-same-length
-same-length c = search needs
-
 returns : tie.Need-returns
 returns c =
     let p = c .before .before in
@@ -68,10 +59,10 @@ pub put-spec : {M : Type 1} → statement M
 put-spec =
     tie.close
     (tie.spec
-    encode-length-requires
+    (λ c κs. search needs)
     count-at-requires
     first-at-requires
-    length-size-requires
+    (λ c κs. search needs)
     put-body-requires
-    same-length
+    (λ c. search needs)
     returns)

@@ -12,18 +12,12 @@ use Rattle.krubbadin.proofs.deciding.match_answer.Reads as match-answer
 use Rattle.packets.proofs.packet_at.Reads as packet-at-reads
 use Rattle.verdicts.proofs.matches.Reads as matches-reads
 
-packet-at-requires : tie.Need-packet-at-requires
-packet-at-requires c κs = search needs
-
-matches-requires : tie.Need-matches-requires
-matches-requires c κs = search needs
-
-match-answer-requires : tie.Need-match-answer-requires
-match-answer-requires c κs = search needs
-
 returns : tie.Need-returns
 returns c = let g = c .before .before .before .before .before .before .before .args in c .match-answer .ensures ∙ ap matchAnswer (c .before .matches .ensures ∙ ap (λ (p : Packet). matchVerdict (g .words .now) (g .values .now) (g .octets .now) p) (c .before .before .packet-at .ensures))
 
 pub krubbadin-match-spec : {M : Type 1} → statement M
 krubbadin-match-spec =
-    tie.close (tie.spec packet-at-requires matches-requires match-answer-requires returns)
+    tie.close (tie.spec (λ c κs. search needs)
+    (λ c κs. search needs)
+    (λ c κs. search needs)
+    returns)
