@@ -219,12 +219,8 @@ fn is_record(piece: Piece) -> bool
     ensures { λ r. ⌜ r ≡ isRecord piece ⌝ }
 {
     match piece {
-        Piece::Prefix { tag: _, prefix: _ } => true,
-        Piece::Operators {
-            tag: _,
-            start: _,
-            count: _,
-        } => true,
+        Piece::Prefix { .. } => true,
+        Piece::Operators { .. } => true,
         Piece::NoRecord => false,
     }
 }
