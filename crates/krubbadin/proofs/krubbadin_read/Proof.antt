@@ -1,6 +1,7 @@
 -- `krubbadin::krubbadin_read` meets its contract: the number names no reading, or the reading that it names goes.
 use Rattle.krubbadin.proofs.Posts.{named}
-use Rattle.krubbadin.specs.Surface.{readAnswer, toldWhich}
+use Rattle.choices.specs.Choices.{toldStandard}
+use Rattle.krubbadin.specs.Surface.{readAnswer}
 use mathlib.Core.Path.{refl, sym, ap, _∙_}
 use borrow.Author.Needs.{needs}
 use Rattle.krubbadin.proofs.krubbadin_read.Statement.{statement}
@@ -46,7 +47,7 @@ returns c =
     let w = k .before .before in
     let g = w .before .before .before .before .before in
     named (g .args .input .now) (g .args .words .now) (g .args .values .now) (g .args .octets .now)
-    (sym (ap toldWhich (k .reading .given .1)) ∙ w .named-by .ensures)
+    (sym (ap toldStandard (k .reading .given .1)) ∙ w .named-by .ensures)
     (c .read-answer .ensures ∙ ap readAnswer (u .read-into .ensures .0), u .read-into .ensures .1)
 
 returns-2 : tie.Need-returns-2
@@ -55,7 +56,7 @@ returns-2 c =
     let w = k .before .before in
     let g = w .before .before .before .before .before in
     named (g .args .input .now) (g .args .words .now) (g .args .values .now) (g .args .octets .now)
-    (sym (ap toldWhich (k .fault .given .1)) ∙ w .named-by .ensures)
+    (sym (ap toldStandard (k .fault .given .1)) ∙ w .named-by .ensures)
     (c .refused .ensures, (refl, (refl, refl)))
 
 pub krubbadin-read-spec : {M : Type 1} → statement M

@@ -1,6 +1,7 @@
 -- `krubbadin::krubbadin_write` meets its contract: the number names no writing, or the writing that it names goes.
 use Rattle.krubbadin.proofs.Posts.{named-writing}
-use Rattle.krubbadin.specs.Surface.{writtenAnswer, toldWhich}
+use Rattle.choices.specs.Choices.{toldStandard}
+use Rattle.krubbadin.specs.Surface.{writtenAnswer}
 use mathlib.Core.Path.{refl, sym, ap, _∙_}
 use borrow.Author.Needs.{needs}
 use Rattle.krubbadin.proofs.krubbadin_write.Statement.{statement}
@@ -40,7 +41,7 @@ returns c =
     let w = k .before .before in
     let g = w .before .before .before .before .before in
     named-writing (g .args .words .now) (g .args .values .now) (g .args .octets .now) (g .args .out .now)
-    (sym (ap toldWhich (k .writing .given .1)) ∙ w .named-by .ensures)
+    (sym (ap toldStandard (k .writing .given .1)) ∙ w .named-by .ensures)
     (c .write-answer .ensures ∙ ap writtenAnswer (u .write-from .ensures .0), u .write-from .ensures .1)
 
 returns-2 : tie.Need-returns-2
@@ -49,7 +50,7 @@ returns-2 c =
     let w = k .before .before in
     let g = w .before .before .before .before .before in
     named-writing (g .args .words .now) (g .args .values .now) (g .args .octets .now) (g .args .out .now)
-    (sym (ap toldWhich (k .fault .given .1)) ∙ w .named-by .ensures)
+    (sym (ap toldStandard (k .fault .given .1)) ∙ w .named-by .ensures)
     (c .refused .ensures, refl)
 
 pub krubbadin-write-spec : {M : Type 1} → statement M

@@ -1,5 +1,5 @@
 -- `listwriting::add_all` meets its contract, which is the invariant: each block is a part of the chain.
-use Prim.Native.Nat.{ℕ, _+_, _-_, _≤_}
+use Prim.Native.Nat.{_-_, _≤_}
 use mathlib.Core.Path.{_≡_}
 use native.Mathlib.Omega.{arith}
 use Rattle.listwriting.specs.Runs.{nothing, Adds}

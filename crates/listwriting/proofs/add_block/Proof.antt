@@ -1,5 +1,5 @@
 -- `listwriting::add_block` meets its contract: 16 operators that are alike are 16 links of the chain at once.
-use Prim.Native.Nat.{ℕ, _+_, _-_, _*_, _<_}
+use Prim.Native.Nat.{_+_, _-_, _<_}
 use mathlib.Core.Path.{_≡_}
 use native.Mathlib.Omega.{arith}
 use lib.ListN.{getD}

@@ -1,5 +1,5 @@
 -- `listwriting::add_each` meets its contract, which is the invariant: each operator is a link of the chain.
-use Prim.Native.Nat.{ℕ, _+_, _-_, _≤_, _<_}
+use Prim.Native.Nat.{_-_, _≤_, _<_}
 use mathlib.Core.Path.{_≡_}
 use native.Mathlib.Omega.{arith}
 use lib.ListN.{getD}

@@ -1,5 +1,5 @@
 -- `listwriting::joined` meets its contract. The invariant: it holds of the values so far.
-use Prim.Native.Nat.{ℕ, _+_, _-_, _≤_}
+use Prim.Native.Nat.{_+_, _-_, _≤_}
 use mathlib.Core.Path.{_≡_}
 use native.Mathlib.Omega.{arith}
 use Rattle.listwriting.specs.Runs.{Joined}

@@ -1,12 +1,7 @@
 -- `listwriting::put_list` meets its contract. `Put` is the invariant; each run is a link of the chain.
-use Prim.Native.Nat.{ℕ, _+_, _-_, _≤_}
-use mathlib.Core.Path.{_≡_, refl, sym, ap, _∙_}
-use mathlib.Core.List.{List}
+use Prim.Native.Nat.{ℕ, _+_, _-_}
+use mathlib.Core.Path.{_≡_}
 use native.Mathlib.Omega.{arith}
-use lib.ListN.{length}
-use lib.Seq.{sets}
-use Rattle.operators.specs.Ops.{opsIn, listOctets}
-use Rattle.listwriting.specs.Lists.{sizeIn}
 use Rattle.listwriting.specs.Runs.{Put}
 use Rattle.listwriting.proofs.Puts.{put-first, put-end, put-chain, put-left}
 use borrow.Author.Needs.{needs}

@@ -1,10 +1,9 @@
 -- `listwriting::put_run` meets its contract. `Put` is the invariant, while the next operator has the width.
-use Prim.Native.Nat.{ℕ, _+_, _-_, _<_}
-use mathlib.Core.Path.{_≡_, refl, sym, ap, _∙_}
+use Prim.Native.Nat.{_-_, _<_}
+use mathlib.Core.Path.{_≡_}
 use native.Mathlib.Omega.{arith}
-use lib.ListN.{length, getD, length-set}
-use Rattle.octets.specs.Widths.{codeIn, widths}
-use Rattle.octets.proofs.Widths.{width-range}
+use lib.ListN.{getD, length-set}
+use Rattle.octets.specs.Widths.{codeIn}
 use Rattle.listwriting.specs.Runs.{Put}
 use Rattle.listwriting.proofs.Puts.{put-first, put-room, put-more}
 use borrow.Author.Needs.{needs}

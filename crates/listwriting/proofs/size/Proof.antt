@@ -1,9 +1,9 @@
 -- `listwriting::size` meets its contract. The invariant: what was counted and what is left are the whole, where each operator's own octet is counted
 -- ahead.
-use Prim.Native.Nat.{ℕ, _+_, _-_, _*_, _≤_}
-use mathlib.Core.Path.{_≡_, refl, ap}
+use Prim.Native.Nat.{_+_, _-_, _*_, _≤_}
+use mathlib.Core.Path.{_≡_, refl}
 use native.Mathlib.Omega.{arith}
-use lib.ListN.{length, getD}
+use lib.ListN.{getD}
 use Rattle.octets.specs.Widths.{widthOf}
 use Rattle.octets.proofs.Widths.{width-most}
 use Rattle.listwriting.specs.Lists.{sizeIn}

@@ -1,5 +1,5 @@
 -- `listwriting::standard_size` meets its contract: what was joined, and the last operator, are the test of the whole list.
-use Prim.Native.Nat.{ℕ, _+_, _-_}
+use Prim.Native.Nat.{_+_, _-_}
 use mathlib.Core.Path.{_≡_, sym, _∙_}
 use native.Mathlib.Omega.{arith}
 use Rattle.listwriting.proofs.Ends.{none-taken, and-first, size-right, size-wrong}

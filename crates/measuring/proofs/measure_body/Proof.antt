@@ -1,6 +1,6 @@
 -- `measuring::measure_body` meets its contract. The invariant: the whole is what was counted and what is left of the words.
-use Prim.Native.Nat.{ℕ, _+_, _-_, _*_, _≤_}
-use mathlib.Core.Path.{_≡_, refl, sym, ap, _∙_}
+use Prim.Native.Nat.{_+_, _-_, _*_, _≤_}
+use mathlib.Core.Path.{_≡_, sym, _∙_}
 use native.Mathlib.Omega.{arith}
 use Rattle.measuring.specs.Bodies.{lent}
 use Rattle.stored.specs.Stored.{piecesFrom}

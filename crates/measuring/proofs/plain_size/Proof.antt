@@ -1,9 +1,6 @@
 -- `measuring::plain_size` meets its contract: a list that is not empty lies within the lent lists.
-use Prim.Native.Nat.{_+_}
-use mathlib.Core.Path.{sym, ap, _∙_}
 use native.Mathlib.Omega.{arith}
-use Rattle.operators.specs.Ops.{opsIn}
-use Rattle.listwriting.specs.Lists.{sizeIn, takes}
+use Rattle.listwriting.specs.Lists.{sizeIn}
 use Rattle.measuring.specs.Bodies.{lent}
 use Rattle.measuring.proofs.Insides.{inside-both}
 use borrow.Author.Needs.{needs}

@@ -1,5 +1,5 @@
 -- `measuring::weigh` meets its contract, by the piece.
-use mathlib.Core.Path.{_≡_, sym, ap, _∙_}
+use mathlib.Core.Path.{sym, ap, _∙_}
 use Rattle.measuring.specs.Bodies.{lent}
 use Rattle.measuring.specs.Weights.{weighedOf}
 use Rattle.measuring.proofs.Weights.{weighed-prefix, weighed-nothing}

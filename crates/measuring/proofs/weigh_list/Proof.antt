@@ -1,6 +1,6 @@
 -- `measuring::weigh_list` meets its contract: the tests in turn.
-use Prim.Native.Nat.{ℕ, _+_}
-use mathlib.Core.Path.{sym, ap, _∙_}
+use Prim.Native.Nat.{_+_}
+use mathlib.Core.Path.{sym, _∙_}
 use native.Mathlib.Omega.{arith}
 use Rattle.listwriting.specs.Lists.{sizeIn}
 use Rattle.listwriting.proofs.Sizes.{size-most}

@@ -5,7 +5,7 @@ use mathlib.Core.Bool.{_&&_}
 use native.Mathlib.Omega.{arith}
 use lib.ListN.{length}
 use Rattle.measuring.specs.Bodies.{prefixOctets}
-use Rattle.measuring.specs.Grounds.{prefixTaken, risesIn}
+use Rattle.measuring.specs.Grounds.{risesIn}
 use Rattle.measuring.specs.Weights.{weighed}
 use Rattle.measuring.proofs.Weights.{prefix-most}
 use borrow.Author.Needs.{needs}

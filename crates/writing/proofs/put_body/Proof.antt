@@ -1,6 +1,5 @@
 -- `writing::put_body` meets its contract. `Turns.antt` has the invariant, `Stood`, and what a turn does to it.
-use Prim.Native.Nat.{ℕ, _+_, _-_, _*_}
-use mathlib.Core.Path.{_≡_, refl, sym, ap, _∙_}
+use Prim.Native.Nat.{_-_}
 use native.Mathlib.Omega.{arith}
 use Rattle.measuring.specs.Bodies.{lent}
 use Rattle.writing.proofs.Turns.{Stood, stood-first, stood-end, stood-more, next-taken, next-room}

@@ -1,7 +1,5 @@
 -- `writing::put_high` meets its contract, by how many octets there are.
-use Prim.Native.Nat.{ℕ, _≤_}
-use mathlib.Core.Path.{_≡_, sym, _∙_}
-use native.Mathlib.Omega.{arith}
+use mathlib.Core.Path.{_≡_, sym}
 use Rattle.writing.proofs.Stores.{four, high-none, high-one, high-three, high-four}
 use borrow.Author.Needs.{needs}
 use Rattle.writing.proofs.put_high.Statement.{statement}

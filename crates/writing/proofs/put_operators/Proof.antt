@@ -1,8 +1,6 @@
 -- `writing::put_operators` meets its contract: a list that is not empty lies within the lent lists.
-use Prim.Native.Nat.{ℕ, _+_}
-use mathlib.Core.Path.{_≡_, refl, sym, ap, _∙_}
+use mathlib.Core.Path.{refl, ap, _∙_}
 use native.Mathlib.Omega.{arith}
-use lib.ListN.{length}
 use lib.Seq.{sets}
 use Rattle.operators.specs.declared.Kind.{Kind}
 use Rattle.operators.specs.Ops.{opsIn, listOctets}

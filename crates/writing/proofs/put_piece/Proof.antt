@@ -1,10 +1,7 @@
 -- `writing::put_piece` meets its contract: the type, then what follows it.
-use Prim.Native.Nat.{ℕ, _+_}
-use mathlib.Core.Path.{_≡_, refl, sym, ap, _∙_}
 use native.Mathlib.Omega.{arith}
-use lib.ListN.{length, set, length-set}
-use lib.Seq.{sets, length-sets}
-use Rattle.measuring.specs.Bodies.{lent, prefixOctets, pieceOctets}
+use lib.ListN.{length-set}
+use Rattle.measuring.specs.Bodies.{lent, pieceOctets}
 use Rattle.writing.proofs.Stores.{prefix-taken, prefix-long, prefix-put, list-inside, list-long, list-put, never-taken, kept}
 use borrow.Author.Needs.{needs}
 use Rattle.writing.proofs.put_piece.Statement.{statement}

@@ -1,5 +1,5 @@
 -- `writing::write` meets its contract, by the reading that the family names.
-use mathlib.Core.Path.{_≡_, sym, ap, _∙_}
+use mathlib.Core.Path.{sym, ap, _∙_}
 use lib.ListN.{length}
 use Rattle.choices.specs.Choices.{toldStandard}
 use Rattle.writing.specs.Writings.{bodyIn, inRoom, writtenIn}
