@@ -1,12 +1,12 @@
 -- What clearing reserved bits, and AND on a first operator, keeps of an operator: its width and its end mark; so whether a list ends well and
 -- how many octets write it stay.
-use Prim.Native.Nat.{ℕ, _+_, _*_, _/_, _%_, _^_}
+use Prim.Native.Nat.{ℕ, _*_, _/_, _%_, _^_}
 use mathlib.Core.Path.{_≡_, refl, sym, _∙_, ap, ap₂}
 use mathlib.Core.Bool.{Bool, false, not, _&&_}
 use mathlib.Core.List.{List, [], _∷_, map}
 use native.Mathlib.Omega.{arith}
 use native.Mathlib.Decide.{decLt}
-use borrow.Author.Tests.{le-leb, lt-leb, leb-true, leb-false, ne-eqb, eq-eqb}
+use borrow.Author.Tests.{le-leb, lt-leb, leb-true, leb-false}
 use lib.Dec.{leb, ltb}
 use lib.ListN.{length, getD}
 use Rattle.ground.proofs.Cases.{by-cases, by-test}
@@ -16,6 +16,7 @@ use Rattle.choices.specs.declared.Reading.the-variants.{Plain, Ipv4, Ipv6}
 use Rattle.operators.specs.declared.Kind.{Kind}
 use Rattle.operators.specs.declared.Kind.the-variants.{Numeric, Bitmask}
 use Rattle.choices.specs.Choices.{refusedIn, firstIn}
+use Rattle.choices.proofs.Limits.{is-taken}
 use Rattle.operators.specs.Ops.{kindOf, clearedIn, Op, op, listOctets}
 use Rattle.lists.specs.Lists.{clearedOp, firstOp, recordedOps}
 use Rattle.lists.proofs.Laws.{recorded-none, recorded-first}
@@ -67,11 +68,10 @@ first-mark r x = same-mark (firstIn r x) x (first-high r x)
 
 -- no reading refuses a cleared octet
 pub cleared-taken : (r : Reading) (k : Kind) (x : ℕ) → refusedIn r k (clearedIn k x) ≡ false
-unfolding refusedIn
-cleared-taken Plain Numeric x = ne-eqb (clearedIn Numeric x / 8 % 2) 1 (λ z. omega (arith, z))
-cleared-taken Plain Bitmask x = ap not (eq-eqb (clearedIn Bitmask x / 4 % 4) 0 (omega arith))
-cleared-taken Ipv4 k x = refl
-cleared-taken Ipv6 k x = refl
+cleared-taken Plain Numeric x = is-taken Plain Numeric (clearedIn Numeric x) (omega arith)
+cleared-taken Plain Bitmask x = is-taken Plain Bitmask (clearedIn Bitmask x) (omega arith)
+cleared-taken Ipv4 k x = is-taken Ipv4 k (clearedIn k x) (omega arith)
+cleared-taken Ipv6 k x = is-taken Ipv6 k (clearedIn k x) (omega arith)
 
 cleared-twice : (k : Kind) (x : ℕ) → clearedIn k (clearedIn k x) ≡ clearedIn k x
 cleared-twice Numeric x = omega arith

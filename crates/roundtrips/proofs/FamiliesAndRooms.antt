@@ -32,17 +32,19 @@ not-plain Ipv4 u e = let z : _≡_ {A = ℕ} 0 1 = cc in omega arith
 not-plain Ipv6 u e = let z : _≡_ {A = ℕ} 0 1 = cc in omega arith
 
 module _ (family : ℕ) (s : List ℕ) (w v o : ℕ) where
-  pub standard-into : (r : Reading) → standardOf family ≡ accepts r → standardInto family s w v o ≡ readInto r s w v o
+  into-by : {a : Answer Reading} → standardOf family ≡ a → standardInto family s w v o ≡ byReading a s w v o
   unfolding standardInto
-  standard-into r e = ap (λ (a : Answer Reading). byReading a s w v o) e
+  into-by e = ap (λ (a : Answer Reading). byReading a s w v o) e
+
+  pub standard-into : (r : Reading) → standardOf family ≡ accepts r → standardInto family s w v o ≡ readInto r s w v o
+  standard-into r e = into-by e
 
   by-family : (rule : ReadRule) (a : Answer Reading) → standardOf family ≡ a → byReading a s w v o ≡ accepts rule → Named family
   by-family rule (accepts r) i e = record { reading = r; is = i }
   by-family rule (declines f) i e = never e
 
   pub read-named : (rule : ReadRule) → standardInto family s w v o ≡ accepts rule → Named family
-  unfolding standardInto
-  read-named rule e = by-family rule (standardOf family) refl e
+  read-named rule e = by-family rule (standardOf family) refl (sym (into-by refl) ∙ e)
 
 -- ---- room
 

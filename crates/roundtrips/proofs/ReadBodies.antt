@@ -33,7 +33,7 @@ use Rattle.roundtrips.specs.Trips.{placedAt, placed, clearedBy, cleared}
 use Rattle.roundtrips.proofs.Operators.{ops-there, octets-least}
 use Rattle.roundtrips.proofs.Clearing.{recorded-clear}
 use Rattle.roundtrips.proofs.ReadLists.{recorded-taken, recorded-long}
-use Rattle.roundtrips.proofs.ReadPrefixes.{prefix-read}
+use Rattle.roundtrips.proofs.ReadPrefixes.{prefix-sized, prefix-valid}
 use Rattle.roundtrips.proofs.WrittenComponents.{Sound}
 use Rattle.roundtrips.proofs.WrittenBodies.{AllSound}
 
@@ -61,12 +61,12 @@ module _ (w : Reading) (st : Standard w) (s : List ℕ) (o : Octets s) where
   module _ (l : Lent) (at t start : ℕ) where
     by-prefix : (p : FoundAt) → t ≤ 2 → (a : Answer PrefixAt) → prefixAt w s (at + 1) ≡ a → prefixFound t a ≡ accepts p → Fits w l at t start p
     by-prefix p h (accepts q) i e =
-        let r = prefix-read w st s (at + 1) q o i in
+        let r = prefix-sized w st s (at + 1) i in
         let n = r .long in
         let m : length (pieceOctets w l (Prefix t (q .prefix))) ≡ suc (length (prefixOctets w (q .prefix))) = ap length (octets-prefix w l t (q .prefix)) in
         subst (Fits w l at t start) (same e)
         record {
-          taken = taken-prefix w l t (q .prefix) ∙ r .taken;
+          taken = taken-prefix w l t (q .prefix) ∙ prefix-valid w st s (at + 1) o i;
           kind = refl;
           count = refl;
           place = refl;

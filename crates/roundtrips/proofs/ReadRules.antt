@@ -9,7 +9,7 @@ use lib.Seq.{sets, sets-eq}
 use Rattle.ground.specs.Answers.{accepts}
 use Rattle.octets.specs.Lengths.{lengthOctets}
 use Rattle.choices.specs.declared.Reading.{Reading}
-use Rattle.choices.specs.Choices.{familyOf, standardOf}
+use Rattle.choices.specs.Choices.{familyOf}
 use Rattle.operators.specs.Ops.{Op, octetOf, numberOf, opsIn}
 use Rattle.prefixes.proofs.Accepted.{Octets}
 use Rattle.stored.specs.declared.Piece.{Piece}

@@ -6,7 +6,6 @@ use mathlib.Core.List.{List}
 use native.Mathlib.Omega.{arith}
 use borrow.Author.Tests.{ltb-true, ltb-false}
 use lib.Dec.{eqb, ltb}
-use lib.ListN.{getD}
 use Rattle.ground.proofs.Cases.{by-test}
 use Rattle.ground.specs.Answers.{accepts}
 use Rattle.ground.specs.Picks.{pick}
