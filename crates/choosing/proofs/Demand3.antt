@@ -7,7 +7,7 @@
 -- - of matching rules that rank equal to it, none was stored before it;
 -- - "no rule" is said only where none matches;
 --
--- and there is no other answer of which this holds (`no-other`), so that "no rule" is said exactly where none matches. In every other case it
+-- there is no other answer of which this holds (`no-other`), and "no rule" is said exactly where none matches (`none-exactly`). In every other case it
 -- refuses, by the first of these that holds: more than 64 rules (12, with their number), a packet out of range (13), a rule that is not
 -- well-formed or words that make no whole rule (10), a rule of another family than the packet's (14, with the first such place): `refuses-..`.
 -- `chosenIn` is what the contract of `choosing::choose` cites, and `Decides` is in that contract too.
@@ -22,17 +22,16 @@ use lib.Dec.{ltb}
 use Rattle.ground.specs.Picks.{pick}
 use Rattle.ground.specs.Answers.{Answer, accepts, refuses, declines}
 use Rattle.ground.proofs.Cases.{by-test, lt-or-le, both}
-use Rattle.packets.specs.declared.Packet.{Packet}
-use Rattle.packets.specs.Packets.{packetOk}
+use Rattle.packets.specs.Packets.{Packet, packetOk}
 use Rattle.ranking.proofs.Orders.{Ordered, by-key}
 use Rattle.ranking.proofs.Laws.{Ruled, ranked, rules-ordered}
-use Rattle.choosing.specs.Choosing.{Table, rulesIn, wholeRules, ruleAt, formedAt, familyIs, matchesAt, rankAt, Choice, place, none, Decides, Decided, allBelow, orElse, firstFailing, better, bestBelow, unmixed, chosenIn}
+use Rattle.choosing.specs.Choosing.{Table, rulesIn, wholeRules, heldAt, formedAt, familyIs, matchesAt, rankAt, Choice, place, none, Decides, Decided, allBelow, orElse, firstFailing, better, bestBelow, unmixed, chosenIn}
 use Rattle.choosing.proofs.Steps.{all-below, all-not}
 use Rattle.choosing.proofs.Best.{Answers, betterThan, passed-over, taken-in, only-one}
 
 -- the rules of a table are in an order
 abbrev held : Table → ℕ → Ruled
-held t i = record { values = t .values; octets = t .octets; rule = ruleAt t i }
+held t i = record { values = t .values; octets = t .octets; rule = heldAt t i }
 
 ordered : (t : Table) → Ordered (rankAt t)
 ordered t = by-key (rankAt t) ranked (held t) rules-ordered (λ x y. refl)
@@ -148,6 +147,13 @@ accepts-exactly t p c e =
 
 pub decides : (t : Table) (p : Packet) (c : Choice) → chosenIn t p ≡ accepts c → Decides t p c
 decides t p c e = accepts-exactly t p c e .decides
+
+-- "'no rule' is said exactly when none matches"
+pub none-exactly : (t : Table) (p : Packet) → Fits t p
+    → (chosenIn t p ≡ accepts none → (j : ℕ) → j < rulesIn t → matchesAt t p j ≡ false)
+    × (((j : ℕ) → j < rulesIn t → matchesAt t p j ≡ false) → chosenIn t p ≡ accepts none)
+none-exactly t p h =
+    (λ e. decides t p none e, λ n. accepts-where t p h ∙ ap accepts (no-other t p (bestBelow t p (rulesIn t)) none (best-decides t p) n))
 
 decided′ : (t : Table) (p : Packet) (a : Answer Choice) → chosenIn t p ≡ a → Decided t p a
 decided′ t p (accepts c) e = decides t p c e

@@ -1,17 +1,18 @@
 -- One step of each pass, and where a pass ends: a choice below a number is told as a place, or the number of rules.
 use Prim.Native.Nat.{ℕ, zero, suc, _+_, _≤_, _<_}
-use mathlib.Core.Path.{_≡_, refl, sym, ap, _∙_, subst}
-use mathlib.Core.Bool.{Bool, true, false}
+use mathlib.Core.Path.{_≡_, refl, sym, ap, ap₂, _∙_, subst}
+use mathlib.Core.Bool.{Bool, true, false, not}
 use mathlib.Core.Logic.{⊎-elim}
 use native.Mathlib.Omega.{arith}
-use borrow.Author.Tests.{lt-ltb, le-ltb, le-leb, lt-leb}
+use borrow.Author.Tests.{not-true, not-false, lt-ltb, le-ltb, le-leb, lt-leb}
 use Rattle.ground.specs.Picks.{pick}
 use Rattle.ground.proofs.Cases.{by-test, lt-or-le, both}
-use Rattle.packets.specs.declared.Packet.{Packet}
+use Rattle.packets.specs.Packets.{Packet}
+use Rattle.ranking.specs.declared.Order.{Order}
 use Rattle.ranking.specs.Ranks.{isBefore}
 use Rattle.choosing.specs.declared.Tested.the-variants.{Formed, BadRecord}
 use Rattle.choosing.specs.Choosing.{Table, formedAt, familyIs, matchesAt, rankAt, Choice, place, none, allBelow, orElse, firstFailing, better, bestBelow}
-use Rattle.choosing.specs.Passes.{placeOr, firstOf, testedBelow, betterOf}
+use Rattle.choosing.specs.Passes.{placeOr, foundOr, testedBelow, betterOf}
 
 -- a choice is of a place below a number
 abbrev pub Below : ℕ → Choice → Type 0
@@ -34,12 +35,12 @@ unfolding firstFailing
 failing-below f zero = tt
 failing-below f (suc n) = or-below n (firstFailing f n) (f n) (failing-below f n)
 
-or-step : (n i : ℕ) → i < n → (c : Choice) (b : Bool) → Below i c → firstOf (placeOr n c) n i b ≡ placeOr n (orElse c (pick b none (place i)))
+or-step : (n i : ℕ) → i < n → (c : Choice) (b : Bool) → Below i c → foundOr (placeOr n c) n i b ≡ placeOr n (orElse c (pick b none (place i)))
 or-step n i l (place j) b h = rw (lt-ltb j n (omega arith)) refl
 or-step n i l none true h = rw (le-ltb n n (omega arith)) refl
 or-step n i l none false h = rw (le-ltb n n (omega arith)) refl
 
-failing-step : (f : ℕ → Bool) (n i : ℕ) → i < n → firstOf (placeOr n (firstFailing f i)) n i (f i) ≡ placeOr n (firstFailing f (suc i))
+failing-step : (f : ℕ → Bool) (n i : ℕ) → i < n → foundOr (placeOr n (firstFailing f i)) n i (f i) ≡ placeOr n (firstFailing f (suc i))
 unfolding firstFailing
 failing-step f n i l = or-step n i l (firstFailing f i) (f i) (failing-below f i)
 
@@ -63,35 +64,36 @@ all-more f n e h = rw (e, h) refl
 
 -- the first pass: so far all are well-formed, and the first place of another family was looked for
 pub record Tests (t : Table) (family n i mixed : ℕ) : Type 0 where
-  pub within : i ≤ n
+  pub passed : i ≤ n
   pub formed : allBelow (formedAt t) i ≡ true
   pub found : mixed ≡ placeOr n (firstFailing (familyIs t family) i)
 
 pub tests-start : (t : Table) (family n : ℕ) → Tests t family n 0 n
 unfolding allBelow firstFailing
-tests-start t family n = record { within = omega arith; formed = refl; found = refl }
+tests-start t family n = record { passed = omega arith; formed = refl; found = refl }
 
-pub tests-on : (t : Table) (family n i mixed : ℕ) → Tests t family n i mixed → i < n → formedAt t i ≡ true → (next : ℕ) → next ≡ firstOf mixed n i (familyIs t family i)
-    → Tests t family n (i + 1) next
-tests-on t family n i mixed h l e next q =
+-- a turn, by what the code has found of the rule
+pub tests-on : (t : Table) (family n i mixed : ℕ) → Tests t family n i mixed → i < n → (good : Bool) → good ≡ formedAt t i → not good ≡ false → (same : Bool) → same ≡ familyIs t family i
+    → (next : ℕ) → next ≡ foundOr mixed n i same → Tests t family n (i + 1) next
+tests-on t family n i mixed h l good e g same f next q =
     let s : suc i ≡ i + 1 = omega arith in
     subst (λ (k : ℕ). Tests t family n k next) s
     (record {
-      within = omega arith;
-      formed = all-more (formedAt t) i (h .formed) e;
-      found = q ∙ ap (λ (x : ℕ). firstOf x n i (familyIs t family i)) (h .found) ∙ failing-step (familyIs t family) n i l;
+      passed = omega arith;
+      formed = all-more (formedAt t) i (h .formed) (sym e ∙ not-false good g);
+      found = q ∙ ap₂ (λ (x : ℕ) (b : Bool). foundOr x n i b) (h .found) f ∙ failing-step (familyIs t family) n i l;
     })
 
 pub tests-end : (t : Table) (family n i mixed : ℕ) → Tests t family n i mixed → n ≤ i → Formed mixed ≡ testedBelow t family n
 unfolding testedBelow
 tests-end t family n i mixed h l =
-    let e : i ≡ n = let w = h .within in omega arith in
+    let e : i ≡ n = let w = h .passed in omega arith in
     let f : allBelow (formedAt t) n ≡ true = subst (λ (k : ℕ). allBelow (formedAt t) k ≡ true) e (h .formed) in
     ap Formed (h .found ∙ ap (λ (k : ℕ). placeOr n (firstFailing (familyIs t family) k)) e) ∙ rw f refl
 
-pub tests-bad : (t : Table) (family n i : ℕ) → i < n → formedAt t i ≡ false → BadRecord ≡ testedBelow t family n
+pub tests-bad : (t : Table) (family n i : ℕ) → i < n → (good : Bool) → good ≡ formedAt t i → not good ≡ true → BadRecord ≡ testedBelow t family n
 unfolding testedBelow
-tests-bad t family n i l e = rw (all-not (formedAt t) n i l e) refl
+tests-bad t family n i l good e g = rw (all-not (formedAt t) n i l (sym e ∙ not-true good g)) refl
 
 -- ---- the second pass
 
@@ -120,15 +122,27 @@ better-step t p n i l (place b) h =
     (λ e. by-test (isBefore (rankAt t i b)) (λ f. rw (e, lt-leb n b (omega arith), f) refl) (λ f. rw (e, lt-leb n b (omega arith), f) refl))
     (λ e. rw e refl)
 
+-- the ways that `better` goes: by whether the rule matches, whether there is a best so far, and what the rule is to it
+module _ (t : Table) (p : Packet) (n best i : ℕ) where
+  pub not-met : matchesAt t p i ≡ false → best ≡ betterOf t p n best i
+  not-met e = rw e
+
+  module _ (e : matchesAt t p i ≡ true) where
+    pub first-met : n ≤ best → i ≡ betterOf t p n best i
+    first-met h = rw (e, le-leb n best h)
+
+    pub by-rank : best < n → (found o : Order) → found ≡ rankAt t i best → found ≡ o → pick (isBefore o) i best ≡ betterOf t p n best i
+    by-rank h found o f g = let r : rankAt t i best ≡ o = sym f ∙ g in rw (e, lt-leb n best h, r)
+
 -- the second pass: the best of those that were passed
 pub record Finds (t : Table) (p : Packet) (n i best : ℕ) : Type 0 where
-  pub within : i ≤ n
+  pub passed : i ≤ n
   pub most : best ≤ n
   pub is : best ≡ placeOr n (bestBelow t p i)
 
 pub finds-start : (t : Table) (p : Packet) (n : ℕ) → Finds t p n 0 n
 unfolding bestBelow
-finds-start t p n = record { within = omega arith; most = omega arith; is = refl }
+finds-start t p n = record { passed = omega arith; most = omega arith; is = refl }
 
 best-more : (t : Table) (p : Packet) (n i best : ℕ) → i < n → best ≡ placeOr n (bestBelow t p i) → betterOf t p n best i ≡ placeOr n (bestBelow t p (suc i))
 unfolding bestBelow
@@ -140,14 +154,14 @@ finds-on t p n i best h l next q =
     let e = q ∙ best-more t p n i best l (h .is) in
     subst (λ (k : ℕ). Finds t p n k next) s
     (record {
-      within = omega arith;
+      passed = omega arith;
       most = subst (λ (x : ℕ). x ≤ n) (sym e) (placed-most n (bestBelow t p (suc i)) (grown (suc i) n (omega arith) (bestBelow t p (suc i)) (best-below t p (suc i))));
       is = e;
     })
 
 pub finds-end : (t : Table) (p : Packet) (n i best : ℕ) → Finds t p n i best → n ≤ i → best ≡ placeOr n (bestBelow t p n)
 finds-end t p n i best h l =
-    let e : i ≡ n = let w = h .within in omega arith in
+    let e : i ≡ n = let w = h .passed in omega arith in
     h .is ∙ ap (λ (k : ℕ). placeOr n (bestBelow t p k)) e
 
 -- ---- a choice that is told as a place, or as the number of rules

@@ -8,8 +8,7 @@ use borrow.Author.Tests.{lt-ltb, le-ltb}
 use lib.Dec.{ltb}
 use Rattle.ground.specs.Answers.{Answer, accepts, refuses}
 use Rattle.ground.proofs.Cases.{by-test}
-use Rattle.packets.specs.declared.Packet.{Packet}
-use Rattle.packets.specs.Packets.{packetOk}
+use Rattle.packets.specs.Packets.{Packet, packetOk}
 use Rattle.choosing.specs.declared.Tested.{Tested}
 use Rattle.choosing.specs.declared.Tested.the-variants.{Formed, BadRecord}
 use Rattle.choosing.specs.Choosing.{Table, rulesIn, wholeRules, formedAt, familyIs, Choice, place, none, Decided, allBelow, firstFailing, bestBelow, unmixed, chosenIn}
