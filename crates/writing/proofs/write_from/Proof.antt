@@ -14,6 +14,12 @@ use Rattle.writing.proofs.measure.Reads as measure-reads
 use Rattle.writing.proofs.put.Reads as put-reads
 use Rattle.writing.proofs.nlri_size.Reads as nlri-size-reads
 
+measure-requires : tie.Need-measure-requires
+measure-requires c κs = search needs
+
+enum-known-m : tie.Need-enum-known-m
+enum-known-m c = search needs
+
 nlri-size-requires : tie.Need-nlri-size-requires
 nlri-size-requires c κs =
     let k = c .before in
@@ -36,6 +42,12 @@ put-requires c κs =
     let k = w .before .before in
     let g = k .before .before in
     (sym (sym (ap toldMeasured (k .m .given .1)) ∙ g .measure .ensures), omega (arith, w .nlri-size .ensures, c .before .if1 .left))
+
+enum-known-m-2 : tie.Need-enum-known-m-2
+enum-known-m-2 c = search needs
+
+same-length : tie.Need-same-length
+same-length c = search needs
 
 returns-2 : tie.Need-returns-2
 unfolding writtenFrom
@@ -61,12 +73,12 @@ pub write-from-spec : {M : Type 1} → statement M
 write-from-spec =
     tie.close
     (tie.spec
-    (λ c κs. search needs)
-    (λ c. search needs)
+    measure-requires
+    enum-known-m
     nlri-size-requires
     returns
     put-requires
-    (λ c. search needs)
-    (λ c. search needs)
+    enum-known-m-2
+    same-length
     returns-2
     returns-3)
