@@ -1,6 +1,6 @@
 -- The best so far over any matching and any order: of those below a number that match, one that no other precedes, and the first stored of
 -- equals. By induction over the number. And there is but one such.
-use Prim.Native.Nat.{ℕ, zero, suc, _≤_, _<_}
+use Prim.Native.Nat.{ℕ, suc, _≤_, _<_}
 use mathlib.Core.Path.{_≡_, refl, sym, ap, _∙_, subst}
 use mathlib.Core.Bool.{Bool, true, false, true≢false}
 use mathlib.Core.Logic.{⊎-elim}

@@ -8,7 +8,7 @@ use lib.Dec.{eqb, leb, ltb}
 use lib.ListN.{getD, drop}
 use lib.Seq.{getD-drop}
 use Rattle.stored.specs.declared.Piece.{Piece}
-use Rattle.stored.specs.Pieces.{isRecord, quadAt, pieceOf, pieceAt}
+use Rattle.stored.specs.Pieces.{isRecord, pieceOf, pieceAt}
 use Rattle.stored.specs.Stored.{storedRule, countAt, familyAt, headAt, head, piecesFrom, recordsFrom, zerosFrom, isFramed, isRule, storedAt}
 
 module _ (at : ℕ) (ws : List ℕ) where

@@ -1,14 +1,11 @@
 -- `choosing::better` meets its contract: the rule at the place is well-formed, and so is the best so far.
 use Prim.Native.Nat.{ℕ, _*_, _<_}
-use mathlib.Core.Path.{_≡_, sym, _∙_}
-use mathlib.Core.Bool.{true}
-use borrow.Author.Tests.{not-true, not-false}
 use borrow.Author.Needs.{needs}
 use Rattle.packets.specs.Packets.{Packet, packetAt}
 use Rattle.ranking.specs.Ranks.{Rankable}
 use Rattle.verdicts.proofs.WellFormed.{rankable}
-use Rattle.choosing.specs.Choosing.{Table, table, matchesAt}
-use Rattle.choosing.proofs.Steps.{not-met, first-met, by-rank}
+use Rattle.choosing.specs.Choosing.{Table, table}
+use Rattle.choosing.proofs.Passes.{not-met, first-met, by-rank}
 use Rattle.choosing.proofs.better.Statement.{statement}
 use Rattle.choosing.proofs.better.Tie as tie
 
@@ -33,17 +30,15 @@ rule-matches-requires c κs =
 
 returns : tie.Need-returns
 returns c =
-    let s = c .before .before .before .before .before .before in
-    not-met (tableOf s) (packetOf s) (s .args .n) (s .args .best) (s .args .i) (sym (c .before .rule-matches .ensures) ∙ not-true _ (c .if1 .taken))
-
--- past the test whether it matches
-met : (c : tie.Else1) → let s = c .before .before .before .before .before .before in matchesAt (tableOf s) (packetOf s) (s .args .i) ≡ true
-met c = sym (c .before .rule-matches .ensures) ∙ not-false _ (c .if1 .left)
+    let m = c .before in
+    let s = m .before .before .before .before .before in
+    not-met (tableOf s) (packetOf s) (s .args .n) (s .args .best) (s .args .i) _ (m .rule-matches .ensures) (c .if1 .taken)
 
 returns-2 : tie.Need-returns-2
 returns-2 c =
-    let s = c .before .before .before .before .before .before .before in
-    first-met (tableOf s) (packetOf s) (s .args .n) (s .args .best) (s .args .i) (met (c .before)) (c .if2 .taken)
+    let e = c .before in
+    let s = e .before .before .before .before .before .before in
+    first-met (tableOf s) (packetOf s) (s .args .n) (s .args .best) (s .args .i) _ (e .before .rule-matches .ensures) (e .if1 .left) (c .if2 .taken)
 
 mul-compare-rules : tie.Need-mul-compare-rules
 mul-compare-rules c = search needs
@@ -69,22 +64,25 @@ returns-3 : tie.Need-returns-3
 returns-3 c =
     let k = c .before .before in
     let d = k .before in
-    let s = d .before .before .before .before .before .before .before in
-    by-rank (tableOf s) (packetOf s) (s .args .n) (s .args .best) (s .args .i) (met (d .before)) (d .if2 .left) _ _ (k .compare-rules .ensures) (c .enum-told .given .1)
+    let e = d .before in
+    let s = e .before .before .before .before .before .before in
+    by-rank (tableOf s) (packetOf s) (s .args .n) (s .args .best) (s .args .i) _ (e .before .rule-matches .ensures) (e .if1 .left) (d .if2 .left) _ _ (k .compare-rules .ensures) (c .enum-told .given .1)
 
 returns-4 : tie.Need-returns-4
 returns-4 c =
     let k = c .before .before in
     let d = k .before in
-    let s = d .before .before .before .before .before .before .before in
-    by-rank (tableOf s) (packetOf s) (s .args .n) (s .args .best) (s .args .i) (met (d .before)) (d .if2 .left) _ _ (k .compare-rules .ensures) (c .enum-told2 .given .1)
+    let e = d .before in
+    let s = e .before .before .before .before .before .before in
+    by-rank (tableOf s) (packetOf s) (s .args .n) (s .args .best) (s .args .i) _ (e .before .rule-matches .ensures) (e .if1 .left) (d .if2 .left) _ _ (k .compare-rules .ensures) (c .enum-told2 .given .1)
 
 returns-5 : tie.Need-returns-5
 returns-5 c =
     let k = c .before .before in
     let d = k .before in
-    let s = d .before .before .before .before .before .before .before in
-    by-rank (tableOf s) (packetOf s) (s .args .n) (s .args .best) (s .args .i) (met (d .before)) (d .if2 .left) _ _ (k .compare-rules .ensures) (c .enum-told3 .given .1)
+    let e = d .before in
+    let s = e .before .before .before .before .before .before in
+    by-rank (tableOf s) (packetOf s) (s .args .n) (s .args .best) (s .args .i) _ (e .before .rule-matches .ensures) (e .if1 .left) (d .if2 .left) _ _ (k .compare-rules .ensures) (c .enum-told3 .given .1)
 
 pub better-spec : {M : Type 1} → statement M
 better-spec =

@@ -8,9 +8,9 @@ use borrow.Author.Needs.{needs}
 use Rattle.packets.specs.Packets.{Packet, packetOk, packetAt}
 use Rattle.choosing.specs.Choosing.{Table, table, rulesIn, toldChosen}
 use Rattle.choosing.specs.Passes.{testedBelow}
-use Rattle.choosing.proofs.Steps.{all-below}
+use Rattle.choosing.proofs.Passes.{all-below}
 use Rattle.choosing.proofs.Demand3.{refuses-many, refuses-packet, refuses-words}
-use Rattle.choosing.proofs.Tells.{tested-formed, Ready, tells-bad, tells-mixed, tells-best, best-is, best-none, promised}
+use Rattle.choosing.proofs.ToldAnswers.{tested-formed, Ready, tells-bad, tells-mixed, tells-best, best-is, best-none, promised}
 use Rattle.choosing.proofs.choose.Statement.{statement}
 use Rattle.choosing.proofs.choose.Tie as tie
 

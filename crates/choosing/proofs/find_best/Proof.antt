@@ -3,7 +3,7 @@ use Prim.Native.Nat.{_-_}
 use borrow.Author.Needs.{needs}
 use Rattle.packets.specs.Packets.{packetAt}
 use Rattle.choosing.specs.Choosing.{table}
-use Rattle.choosing.proofs.Steps.{Finds, finds-start, finds-on, finds-end}
+use Rattle.choosing.proofs.Passes.{Finds, finds-start, finds-on, finds-end}
 use Rattle.choosing.proofs.find_best.Statement.{statement}
 use Rattle.choosing.proofs.find_best.Tie as tie
 

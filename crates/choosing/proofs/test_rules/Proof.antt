@@ -4,7 +4,7 @@ use mathlib.Core.Path.{ap}
 use borrow.Author.Needs.{needs}
 use lib.Dec.{eqb}
 use Rattle.choosing.specs.Choosing.{table}
-use Rattle.choosing.proofs.Steps.{Tests, tests-start, tests-on, tests-end, tests-bad}
+use Rattle.choosing.proofs.Passes.{Tests, tests-start, tests-on, tests-end, tests-bad}
 use Rattle.choosing.proofs.test_rules.Statement.{statement}
 use Rattle.choosing.proofs.test_rules.Tie as tie
 

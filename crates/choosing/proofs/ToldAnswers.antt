@@ -1,24 +1,18 @@
 -- What the two passes tell of the answer.
-use Prim.Native.Nat.{ℕ, _*_, _/_, _%_, _≤_, _<_}
-use mathlib.Core.Path.{_≡_, refl, sym, ap, _∙_}
-use mathlib.Core.Bool.{Bool, true, false}
-use mathlib.Core.List.{List, [], _∷_}
+use Prim.Native.Nat.{ℕ, _≤_, _<_}
+use mathlib.Core.Path.{_≡_, refl, sym, _∙_}
+use mathlib.Core.Bool.{true, false}
+use mathlib.Core.List.{[], _∷_}
 use native.Mathlib.Omega.{arith}
-use borrow.Author.Tests.{lt-ltb, le-ltb}
-use lib.Dec.{ltb}
+use borrow.Author.Tests.{le-ltb}
 use Rattle.ground.specs.Answers.{Answer, accepts, refuses}
 use Rattle.ground.proofs.Cases.{by-test}
 use Rattle.packets.specs.Packets.{Packet, packetOk}
-use Rattle.choosing.specs.declared.Tested.{Tested}
 use Rattle.choosing.specs.declared.Tested.the-variants.{Formed, BadRecord}
 use Rattle.choosing.specs.Choosing.{Table, rulesIn, wholeRules, formedAt, familyIs, Choice, place, none, Decided, allBelow, firstFailing, bestBelow, unmixed, chosenIn}
 use Rattle.choosing.specs.Passes.{placeOr, testedBelow}
-use Rattle.choosing.proofs.Steps.{failing-below, best-below, told-place, told-none}
+use Rattle.choosing.proofs.Passes.{failing-below, best-below, told-place, told-none}
 use Rattle.choosing.proofs.Demand3.{decided}
-
-abbrev code : Tested → ℕ
-code (Formed m) = 1
-code BadRecord = 0
 
 inside : {a b : ℕ} → Formed a ≡ Formed b → a ≡ b
 inside e = cc
@@ -30,13 +24,13 @@ unfolding testedBelow
 tested-formed t family n mixed e =
     by-test (allBelow (formedAt t) n)
     (λ h. (h, sym (inside (rw h at e))))
-    (λ h. let z : _≡_ {A = ℕ} 0 1 = ap code (rw h at e) in absurd (omega arith))
+    (λ h. let z : _≡_ {A = ℕ} 0 1 = cc (rw h at e) in absurd (omega arith))
 
 pub tested-bad : (t : Table) (family n : ℕ) → testedBelow t family n ≡ BadRecord → allBelow (formedAt t) n ≡ false
 unfolding testedBelow
 tested-bad t family n e =
     by-test (allBelow (formedAt t) n)
-    (λ h. let z : _≡_ {A = ℕ} 1 0 = ap code (rw h at e) in absurd (omega arith))
+    (λ h. let z : _≡_ {A = ℕ} 0 1 = cc (rw h at e) in absurd (omega arith))
     (λ h. h)
 
 -- what was found before the passes

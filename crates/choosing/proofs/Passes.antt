@@ -123,16 +123,16 @@ better-step t p n i l (place b) h =
     (λ e. rw e refl)
 
 -- the ways that `better` goes: by whether the rule matches, whether there is a best so far, and what the rule is to it
-module _ (t : Table) (p : Packet) (n best i : ℕ) where
-  pub not-met : matchesAt t p i ≡ false → best ≡ betterOf t p n best i
-  not-met e = rw e
+module _ (t : Table) (p : Packet) (n best i : ℕ) (met : Bool) (is : met ≡ matchesAt t p i) where
+  pub not-met : not met ≡ true → best ≡ betterOf t p n best i
+  not-met e = rw (← is, not-true met e)
 
-  module _ (e : matchesAt t p i ≡ true) where
+  module _ (e : not met ≡ false) where
     pub first-met : n ≤ best → i ≡ betterOf t p n best i
-    first-met h = rw (e, le-leb n best h)
+    first-met h = rw (← is, not-false met e, le-leb n best h)
 
     pub by-rank : best < n → (found o : Order) → found ≡ rankAt t i best → found ≡ o → pick (isBefore o) i best ≡ betterOf t p n best i
-    by-rank h found o f g = let r : rankAt t i best ≡ o = sym f ∙ g in rw (e, lt-leb n best h, r)
+    by-rank h found o f g = let r : rankAt t i best ≡ o = sym f ∙ g in rw (← is, not-false met e, lt-leb n best h, r)
 
 -- the second pass: the best of those that were passed
 pub record Finds (t : Table) (p : Packet) (n i best : ℕ) : Type 0 where
