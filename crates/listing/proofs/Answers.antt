@@ -1,5 +1,5 @@
--- What `list` has of an input once it is read: a rule that can be listed, whose lines are the listing, however far the lent lists go on with zeros
--- past its operators. And what it answers then.
+-- What `list` has of an input once it is read: words that can be listed, whose lines are the listing, however far the lent lists go on with zeros past
+-- the rule's operators. And what it answers then.
 use Prim.Native.Nat.{ℕ, zero, suc, _+_, _≤_, _<_}
 use mathlib.Core.Path.{_≡_, refl, sym, ap, ap₂, _∙_, subst}
 use mathlib.Core.List.{List, [], _∷_, _++_, map}
@@ -14,26 +14,22 @@ use Rattle.ground.proofs.Cases.{lt-or-le}
 use Rattle.refusals.specs.declared.Fault.{Fault}
 use Rattle.choices.specs.declared.Reading.the-variants.{Ipv4}
 use Rattle.operators.specs.Ops.{Op, opsIn, octetOf, numberOf}
-use Rattle.octets.specs.Lengths.{lengthAt}
-use Rattle.rules.specs.declared.FlowSpecComponent.{FlowSpecComponent}
-use Rattle.rules.specs.declared.FlowSpecNlri.{FlowSpecNlri}
-use Rattle.rules.specs.Components.{componentsOf}
 use Rattle.prefixes.proofs.Accepted.{Octets}
-use Rattle.stored.specs.Stored.{ruleAt, ruleIn}
-use Rattle.stored.proofs.Words.{covered-slots}
-use Rattle.pieces.specs.declared.Piece.{Piece}
-use Rattle.pieces.specs.declared.Piece.the-variants.{Prefix, Operators, NoRecord}
-use Rattle.pieces.specs.Pieces.{pieceOf}
+use Rattle.stored.specs.declared.Piece.{Piece}
+use Rattle.stored.specs.declared.Piece.the-variants.{Prefix, Operators, NoRecord}
+use Rattle.stored.specs.Stored.{head, StoredRule, countAt, piecesFrom, storedAt}
+use Rattle.stored.proofs.Words.{length-pieces}
+use Rattle.stored.proofs.Inverse.{put-read, accepted}
 use Rattle.reading.specs.declared.ReadInto.{ReadInto}
-use Rattle.reading.specs.Readings.{ReadRule, readAt, readInto, toldInto, takenOf, wordsOf, operatorsOf, nlriOf}
-use Rattle.reading.proofs.Rules.{read-rule, rule-back}
+use Rattle.reading.specs.Readings.{ReadRule, readAt, toldInto, takenOf, wordsOf, operatorsOf}
+use Rattle.reading.proofs.Walked.{read-rule, read-family}
 use Rattle.listing.specs.declared.Listed.{Listed}
 use Rattle.listing.specs.declared.Listed.the-variants.{Octets as Has, Refused}
 use Rattle.listing.specs.Listings.{opLines, pieceLines, typeLine, opsLine, componentLines, ruleLines, answerLines, listedAt, listingOf, listedInto, countedIn, octetsIn, toldListed}
-use Rattle.listing.specs.Puts.{Room, Put, AllWithin, Whole, linesOf}
-use Rattle.listing.proofs.Spans.{allCounts, listable, all-more}
+use Rattle.listing.specs.Puts.{Placeable, Put, AllBacked, Listable, linesOf}
+use Rattle.listing.proofs.RulesBacked.{allCounts, rule-backed, all-more}
 use Rattle.listing.proofs.Sizes.{lines-most}
-use Rattle.listing.proofs.Readings.{over-long, read-whole, as-read}
+use Rattle.listing.proofs.NeverShort.{over-long, read-whole}
 
 -- ---- lists that go on with zeros
 abbrev blank : ℕ → List ℕ
@@ -68,92 +64,89 @@ module _ (vs ws os us : List ℕ) (p : Same vs ws) (q : Same os us) where
   piece-same (Operators t start n) = ap (λ (os : List Op). typeLine t ++ opsLine n ++ opLines os) (ops-same start n)
   piece-same NoRecord = refl
 
-  components-same : (cs : List FlowSpecComponent) → componentLines vs os cs ≡ componentLines ws us cs
+  components-same : (ps : List Piece) → componentLines vs os ps ≡ componentLines ws us ps
   unfolding componentLines
   components-same [] = refl
-  components-same (c ∷ cs) = ap₂ (λ (xs ys : List ℕ). xs ++ ys) (piece-same (pieceOf c)) (components-same cs)
+  components-same (x ∷ ps) = ap₂ (λ (xs ys : List ℕ). xs ++ ys) (piece-same x) (components-same ps)
 
-  rule-same : (used : ℕ) (cs : List FlowSpecComponent) → ruleLines used cs vs os ≡ ruleLines used cs ws us
+  rule-same : (used : ℕ) (ps : List Piece) → ruleLines used ps vs os ≡ ruleLines used ps ws us
   unfolding ruleLines
-  rule-same used cs = rw (components-same cs)
+  rule-same used ps = rw (components-same ps)
 
 -- ---- what was read
-accepted : (s : List ℕ) (r : ReadRule) → listedAt s ≡ accepts r → (length s ≤ 4097) × (readAt Ipv4 s ≡ accepts r)
-accepted s r e =
+as-accepted : (s : List ℕ) (r : ReadRule) → listedAt s ≡ accepts r → (length s ≤ 4097) × (readAt Ipv4 s ≡ accepts r)
+as-accepted s r e =
     ⊎-elim (λ h. never (sym (over-long s h) ∙ e)) (λ h. (h, sym (read-whole s h) ∙ e)) (lt-or-le 4097 (length s))
 
--- the words of nothing
-empty : ruleIn (ruleAt (blank 64) 0) ≡ nlriOf (refuses 1 [])
-unfolding readInto readAt lengthAt
-empty = rule-back Ipv4 [] 64 0 0 (λ i. omega arith)
+-- the pieces of an answer are those of its words
+abbrev piecesOf : Answer ReadRule → List Piece
+piecesOf (accepts r) = r .pieces
+piecesOf (declines f) = []
 
-rule-listed : (s : List ℕ) → Octets s → ruleIn (ruleAt (sets (blank 64) 0 (wordsOf (listedAt s))) 0) ≡ nlriOf (listedAt s)
-rule-listed s o =
-    ⊎-elim
-    (λ h. rw (over-long s h) empty)
-    (λ h. rw (← as-read s 64 2047 2047 h (omega arith) (omega arith) (omega arith)) (rule-back Ipv4 s 64 2047 2047 o))
-    (lt-or-le 4097 (length s))
+-- an answer to an input that is listed: few components, their operators there, and its lines those of the lists that go on
+record Listing (s : List ℕ) (a : Answer ReadRule) : Type 0 where
+  pub pieces : storedAt (sets (blank 64) 0 (wordsOf a)) 0 .pieces ≡ piecesOf a
+  pub few : length (piecesOf a) ≤ 13
+  pub backed : AllBacked 2047 2047 (piecesOf a)
+  pub counts : allCounts (piecesOf a) ≤ 2047
+  pub lines : linesOf (takenOf a) (piecesOf a) (sets (blank 2047) 0 (map numberOf (operatorsOf a))) (sets (blank 2047) 0 (map octetOf (operatorsOf a))) ≡ answerLines a
 
-whole-of : (s : List ℕ) → Octets s → (a : Answer ReadRule) → listedAt s ≡ a → Whole (nlriOf a) 2047 2047
-whole-of s o (accepts r) e =
-    let h = accepted s r e in
-    let l = listable s r (h .0) (h .1) in
+listing-of : (s : List ℕ) → Octets s → (a : Answer ReadRule) → listedAt s ≡ a → Listing s a
+unfolding piecesFrom
+listing-of s o (accepts r) e =
+    let h = as-accepted s r e in
+    let b = rule-backed s r (h .0) (h .1) in
     let g = read-rule Ipv4 s r o (h .1) in
-    let f = l .few in
-    let i = covered-slots (r .components) in
-    record {
-      counted = ap length i;
-      most = omega (arith, g .few);
-      within = subst (AllWithin 2047 2047) (sym i) (all-more f f (r .components) (l .named));
-    }
-whole-of s o (declines f) e = record { counted = refl; most = omega arith; within = λ i. tt }
-
-counts-of : (s : List ℕ) (a : Answer ReadRule) → listedAt s ≡ a → allCounts (componentsOf (nlriOf a)) ≤ 2047
-counts-of s (accepts r) e =
-    let h = accepted s r e in
-    let l = listable s r (h .0) (h .1) in
-    rw (covered-slots (r .components), l .total) (l .few)
-counts-of s (declines f) e = omega arith
-
-lines-of : (s : List ℕ) (a : Answer ReadRule) → listedAt s ≡ a
-    → linesOf (takenOf a) (componentsOf (nlriOf a)) (sets (blank 2047) 0 (map numberOf (operatorsOf a))) (sets (blank 2047) 0 (map octetOf (operatorsOf a))) ≡ answerLines a
-lines-of s (accepts r) e =
-    let h = accepted s r e in
-    let f = listable s r (h .0) (h .1) .few in
+    let n = g .few in
+    let y = read-family Ipv4 s r (h .1) in
+    let f = b .few in
     let vs = map numberOf (r .operators) in
     let os = map octetOf (r .operators) in
-    rw (covered-slots (r .components))
-    (rule-same (sets (blank 2047) 0 vs) vs (sets (blank 2047) 0 os) os (padded 2047 vs (simp length-map f)) (padded 2047 os (simp length-map f)) (r .used) (r .components))
-lines-of s (declines f) e = refl
+    let w = sets (blank 64) 0 (wordsOf (accepts r)) in
+    let x = accepted w 0 _ (put-read (r .pieces) (head (r .family) 0) (omega arith) (g .fit) (omega arith) (blank 64) 0 (omega arith)) in
+    record {
+      pieces = sym (ap (λ (z : StoredRule). z .pieces) (x .2));
+      few = omega arith;
+      backed = all-more f f (r .pieces) (b .backed);
+      counts = omega (arith, b .total);
+      lines =
+          rule-same (sets (blank 2047) 0 vs) vs (sets (blank 2047) 0 os) os (padded 2047 vs (simp length-map f)) (padded 2047 os (simp length-map f)) (r .used) (r .pieces);
+    }
+listing-of s o (declines f) e = record { pieces = refl; few = omega arith; backed = λ i. tt; counts = omega arith; lines = refl }
 
-pub record Given (s : List ℕ) (read : ReadInto) (rule : FlowSpecNlri) (values octets : List ℕ) : Type 0 where
-  pub whole : Whole rule (length values) (length octets)
-  pub lines : linesOf (toldInto read) (componentsOf rule) values octets ≡ listingOf s
-  pub room : Room 0 (linesOf (toldInto read) (componentsOf rule) values octets)
+pub record Given (s : List ℕ) (read : ReadInto) (words values octets : List ℕ) : Type 0 where
+  pub listable : Listable words (length values) (length octets)
+  pub lines : linesOf (toldInto read) (storedAt words 0 .pieces) values octets ≡ listingOf s
+  pub placeable : Placeable 0 (linesOf (toldInto read) (storedAt words 0 .pieces) values octets)
   pub most : length (listingOf s) ≤ 65536
 
-long : (xs : List ℕ) {l : List ℕ} → l ≡ sets (blank 2047) 0 xs → length l ≡ 2047
-long xs e = ap length e ∙ length-sets (blank 2047) 0 xs ∙ length-replicate {A = ℕ} 2047 0
+long : (n : ℕ) (xs : List ℕ) {l : List ℕ} → l ≡ sets (blank n) 0 xs → length l ≡ n
+long n xs e = ap length e ∙ length-sets (blank n) 0 xs ∙ length-replicate {A = ℕ} n 0
 
-pub given : (s : List ℕ) → Octets s → (read : ReadInto) {rule : FlowSpecNlri} {words values octets : List ℕ} → toldInto read ≡ takenOf (listedAt s)
+pub given : (s : List ℕ) → Octets s → (read : ReadInto) {words values octets : List ℕ} → toldInto read ≡ takenOf (listedAt s)
     → words ≡ sets (blank 64) 0 (wordsOf (listedAt s)) → values ≡ sets (blank 2047) 0 (map numberOf (operatorsOf (listedAt s)))
-    → octets ≡ sets (blank 2047) 0 (map octetOf (operatorsOf (listedAt s))) → rule ≡ ruleIn (ruleAt words 0) → Given s read rule values octets
-given s o read {rule} {words} {values} {octets} t w v u r =
-    let e : rule ≡ nlriOf (listedAt s) = r ∙ ap (λ (ws : List ℕ). ruleIn (ruleAt ws 0)) w ∙ rule-listed s o in
-    let h : Whole rule 2047 2047 = subst (λ (x : FlowSpecNlri). Whole x 2047 2047) (sym e) (whole-of s o (listedAt s) refl) in
-    let k : allCounts (componentsOf rule) ≤ 2047 = subst (λ (x : FlowSpecNlri). allCounts (componentsOf x) ≤ 2047) (sym e) (counts-of s (listedAt s) refl) in
-    let m = lines-most read (componentsOf rule) values octets (omega (arith, h .counted, h .most)) k in
-    let i : linesOf (toldInto read) (componentsOf rule) values octets ≡ listingOf s = rw (t, e, v, u) (lines-of s (listedAt s) refl) in
+    → octets ≡ sets (blank 2047) 0 (map octetOf (operatorsOf (listedAt s))) → Given s read words values octets
+given s o read {words} {values} {octets} t w v u =
+    let g = listing-of s o (listedAt s) refl in
+    let ps = storedAt words 0 .pieces in
+    let e : ps ≡ piecesOf (listedAt s) = ap (λ (ws : List ℕ). storedAt ws 0 .pieces) w ∙ g .pieces in
+    let n = ap length e in
+    let c = ap allCounts e in
+    let m = lines-most read ps values octets (omega (arith, g .few)) (omega (arith, g .counts)) in
+    let i : linesOf (toldInto read) ps values octets ≡ listingOf s = rw (t, e, v, u) (g .lines) in
+    let a = long 64 (wordsOf (listedAt s)) w in
     record {
-      whole = rw (long (map numberOf (operatorsOf (listedAt s))) v, long (map octetOf (operatorsOf (listedAt s))) u) h;
+      listable =
+          rw (long 2047 (map numberOf (operatorsOf (listedAt s))) v, long 2047 (map octetOf (operatorsOf (listedAt s))) u)
+          (record { long = omega arith; few = omega (arith, g .few, length-pieces (countAt words 0) words 0); backed = subst (AllBacked 2047 2047) (sym e) (g .backed) });
       lines = i;
-      room = record { fits = omega arith };
+      placeable = record { fits = omega arith };
       most = subst (λ (xs : List ℕ). length xs ≤ 65536) i m;
     }
 
 -- the place after the lines is their number
-pub needed-is : {s : List ℕ} {read : ReadInto} {rule : FlowSpecNlri} {values octets : List ℕ} {out left : List ℕ} {n : ℕ} → Given s read rule values octets
-    → Put out 0 (linesOf (toldInto read) (componentsOf rule) values octets) left n → n ≡ length (listingOf s)
+pub needed-is : {s : List ℕ} {read : ReadInto} {words values octets : List ℕ} {out left : List ℕ} {n : ℕ} → Given s read words values octets
+    → Put out 0 (linesOf (toldInto read) (storedAt words 0 .pieces) values octets) left n → n ≡ length (listingOf s)
 needed-is {n = n} g p = let e = ap length (g .lines) in omega (arith, p .place)
 
 -- ---- what is answered

@@ -1,8 +1,9 @@
-pub mod Joins
-pub mod Digits
-pub mod Lines
-pub mod Spans
+pub mod TextsInTurn
+pub mod DigitsInTurn
+pub mod LinesInTurn
+pub mod Carried
+pub mod RulesBacked
 pub mod Sizes
-pub mod Readings
+pub mod NeverShort
 pub mod Answers
 pub mod Once

@@ -11,18 +11,16 @@ use Rattle.refusals.specs.Refusals.{numberOf, carriedOf}
 use Rattle.operators.specs.Ops.{Op, op, opsIn}
 use Rattle.rules.specs.declared.NetworkPrefix.{NetworkPrefix}
 use Rattle.rules.specs.declared.NetworkPrefix.the-variants.{Ipv4, Ipv6, Ipv4Offset, Ipv6Offset}
-use Rattle.rules.specs.declared.FlowSpecComponent.{FlowSpecComponent}
-use Rattle.pieces.specs.declared.Piece.{Piece}
-use Rattle.pieces.specs.declared.Piece.the-variants.{Prefix, Operators, NoRecord}
-use Rattle.pieces.specs.Pieces.{pieceOf}
+use Rattle.stored.specs.declared.Piece.{Piece}
+use Rattle.stored.specs.declared.Piece.the-variants.{Prefix, Operators, NoRecord}
 use Rattle.reading.specs.declared.ReadInto.{ReadInto}
 use Rattle.reading.specs.declared.ReadInto.the-variants.{Read, Refused}
 use Rattle.reading.specs.Readings.{toldInto}
 use Rattle.listing.specs.Texts.{ascii, digit, decimalFrom, decimal, commas, dotted}
 use Rattle.listing.specs.Listings.{numberLine, typeLine, opsLine, opLine, opLines, prefixLine, pieceLines, componentLines, ruleLines, refusalLines}
 use Rattle.listing.specs.Puts.{linesOf}
-use Rattle.listing.proofs.Lines.{carried-most}
-use Rattle.listing.proofs.Spans.{countIn, allCounts}
+use Rattle.listing.proofs.Carried.{carried-most}
+use Rattle.listing.proofs.RulesBacked.{countIn, allCounts}
 
 one-or-none : (b : Bool) (x : ℕ) (xs : List ℕ) → length (pick b (x ∷ []) [] ++ xs) ≤ suc (length xs)
 one-or-none true x xs = omega arith
@@ -79,13 +77,13 @@ piece-most values octets (Operators t start n) =
     omega (arith, length-append (typeLine t ++ opsLine n) (opLines (opsIn values octets start n)), length-append (typeLine t) (opsLine n))
 piece-most values octets NoRecord = omega arith
 
-components-most : (values octets : List ℕ) (cs : List FlowSpecComponent) → length (componentLines values octets cs) ≤ 138 * length cs + 27 * allCounts cs
+components-most : (values octets : List ℕ) (ps : List Piece) → length (componentLines values octets ps) ≤ 138 * length ps + 27 * allCounts ps
 unfolding componentLines
 components-most values octets [] = omega arith
-components-most values octets (c ∷ cs) =
-    let h = piece-most values octets (pieceOf c) in
-    let l = components-most values octets cs in
-    omega (arith, length-append (pieceLines values octets (pieceOf c)) (componentLines values octets cs))
+components-most values octets (p ∷ ps) =
+    let h = piece-most values octets p in
+    let l = components-most values octets ps in
+    omega (arith, length-append (pieceLines values octets p) (componentLines values octets ps))
 
 commas-most : (ns : List ℕ) → length (commas ns) ≤ 21 * length ns
 commas-most [] = omega arith
@@ -95,13 +93,13 @@ commas-most (n ∷ m ∷ ns) =
     let l = commas-most (m ∷ ns) in
     omega (arith, length-append (decimal n ++ ascii ",") (commas (m ∷ ns)), length-append (decimal n) (ascii ","))
 
-rule-most : (used : ℕ) (cs : List FlowSpecComponent) (values octets : List ℕ) → length cs ≤ 13 → allCounts cs ≤ 2047 → length (ruleLines used cs values octets) ≤ 65536
+rule-most : (used : ℕ) (ps : List Piece) (values octets : List ℕ) → length ps ≤ 13 → allCounts ps ≤ 2047 → length (ruleLines used ps values octets) ≤ 65536
 unfolding ruleLines
-rule-most used cs values octets h w =
+rule-most used ps values octets h w =
     let a = number-most (ascii "status=") 0 in
     let b = number-most (ascii "used=") used in
-    let d = number-most (ascii "components=") (length cs) in
-    let l = components-most values octets cs in
+    let d = number-most (ascii "components=") (length ps) in
+    let l = components-most values octets ps in
     simp length-append (omega arith)
 
 refusal-most : (f : Fault) → length (refusalLines (numberOf (f .error)) (carriedOf (f .error))) ≤ 65536
@@ -112,6 +110,6 @@ refusal-most f =
     let d = carried-most (f .error) in
     simp length-append (omega arith)
 
-pub lines-most : (read : ReadInto) (cs : List FlowSpecComponent) (values octets : List ℕ) → length cs ≤ 13 → allCounts cs ≤ 2047 → length (linesOf (toldInto read) cs values octets) ≤ 65536
-lines-most (Read used n) cs values octets h w = rule-most used cs values octets h w
-lines-most (Refused f) cs values octets h w = refusal-most f
+pub lines-most : (read : ReadInto) (ps : List Piece) (values octets : List ℕ) → length ps ≤ 13 → allCounts ps ≤ 2047 → length (linesOf (toldInto read) ps values octets) ≤ 65536
+lines-most (Read used n) ps values octets h w = rule-most used ps values octets h w
+lines-most (Refused f) ps values octets h w = refusal-most f

@@ -10,10 +10,8 @@ use Rattle.choices.specs.declared.Reading.the-variants.{Ipv4}
 use Rattle.operators.specs.Ops.{Op, octetOf, numberOf, opsIn}
 use Rattle.rules.specs.declared.NetworkPrefix.{NetworkPrefix}
 use Rattle.rules.specs.declared.NetworkPrefix.the-variants.{Ipv4 as V4, Ipv6 as V6, Ipv4Offset, Ipv6Offset}
-use Rattle.rules.specs.declared.FlowSpecComponent.{FlowSpecComponent}
-use Rattle.pieces.specs.declared.Piece.{Piece}
-use Rattle.pieces.specs.declared.Piece.the-variants.{Prefix, Operators, NoRecord}
-use Rattle.pieces.specs.Pieces.{pieceOf}
+use Rattle.stored.specs.declared.Piece.{Piece}
+use Rattle.stored.specs.declared.Piece.the-variants.{Prefix, Operators, NoRecord}
 use Rattle.reading.specs.Readings.{ReadRule, readAt}
 use Rattle.listing.specs.declared.Listed.{Listed}
 use Rattle.listing.specs.declared.Listed.the-variants.{Octets, Refused}
@@ -66,20 +64,20 @@ pieceLines values octets (Prefix t p) = typeLine t ++ prefixLine p
 pieceLines values octets (Operators t start n) = typeLine t ++ opsLine n ++ opLines (opsIn values octets start n)
 pieceLines values octets NoRecord = []
 
-unfoldable pub componentLines : List ℕ → List ℕ → List FlowSpecComponent → List ℕ
+unfoldable pub componentLines : List ℕ → List ℕ → List Piece → List ℕ
 componentLines values octets [] = []
-componentLines values octets (c ∷ cs) = pieceLines values octets (pieceOf c) ++ componentLines values octets cs
+componentLines values octets (p ∷ ps) = pieceLines values octets p ++ componentLines values octets ps
 
 -- the listing of a rule that used so many octets, and of a refusal
-unfoldable pub ruleLines : ℕ → List FlowSpecComponent → List ℕ → List ℕ → List ℕ
-ruleLines used cs values octets =
-    readingLine ++ statusLine 0 ++ usedLine used ++ componentsLine (length cs) ++ componentLines values octets cs
+unfoldable pub ruleLines : ℕ → List Piece → List ℕ → List ℕ → List ℕ
+ruleLines used ps values octets =
+    readingLine ++ statusLine 0 ++ usedLine used ++ componentsLine (length ps) ++ componentLines values octets ps
 
 unfoldable pub refusalLines : ℕ → List ℕ → List ℕ
 refusalLines number carried = readingLine ++ statusLine number ++ detailLine carried
 
 abbrev pub answerLines : Answer ReadRule → List ℕ
-answerLines (accepts r) = ruleLines (r .used) (r .components) (map numberOf (r .operators)) (map octetOf (r .operators))
+answerLines (accepts r) = ruleLines (r .used) (r .pieces) (map numberOf (r .operators)) (map octetOf (r .operators))
 answerLines (declines f) = refusalLines (f .number) (f .carried)
 
 -- "Over 4,097 octets of input prints status 8 with detail 4098, since it stops reading there"

@@ -10,18 +10,18 @@ ghost use lib.Seq.{sets};
 ghost use Rattle.ground.specs.Picks.{pick};
 ghost use Rattle.refusals.specs.Refusals.{numberOf, carriedOf};
 ghost use Rattle.operators.specs.Ops.{op, opsIn, octetOf, numberOf as valueOf};
-ghost use Rattle.rules.specs.Components.{componentsOf};
+ghost use Rattle.stored.specs.Stored.{storedAt};
 ghost use Rattle.reading.specs.Readings.{toldInto, takenOf, wordsOf, operatorsOf};
 ghost use Rattle.listing.specs.Texts.{digit as Texts·digit, hex, decimal, commas, dotted};
 ghost use Rattle.listing.specs.Listings.{numberLine, opLine, opLines, prefixLine, pieceLines, componentLines, ruleLines, refusalLines, listedAt, listingOf, listedInto, countedIn, octetsIn, toldListed};
-ghost use Rattle.listing.specs.Puts.{Room, Put, Within, Whole, linesOf};
+ghost use Rattle.listing.specs.Puts.{Placeable, Put, Backed, Listable, carriedIn, linesOf};
 use choices::Reading;
-use pieces::Piece;
 use reading::ReadInto;
 use refusals::Fault;
 use refusals::FlowSpecError;
-use rules::FlowSpecNlri;
+use refusals::Numbers;
 use rules::NetworkPrefix;
+use stored::Piece;
 
 // How many octets the listing has.
 pub enum Listed {
@@ -31,7 +31,7 @@ pub enum Listed {
 
 // One octet.
 fn put(octet: u8, out: &mut [u8], at: usize) -> usize
-    requires { ⌜ Room at (octet ∷ []) ⌝ }
+    requires { ⌜ Placeable at (octet ∷ []) ⌝ }
     ensures { λ r. ⌜ Put (now (out .entry)) at (octet ∷ []) (now (out .exit)) r ⌝ }
 {
     if at < out.len() {
@@ -43,7 +43,7 @@ fn put(octet: u8, out: &mut [u8], at: usize) -> usize
 
 // An octet, if it is wanted.
 fn put_if(wanted: bool, octet: u8, out: &mut [u8], at: usize) -> usize
-    requires { ⌜ Room at (pick wanted (octet ∷ []) []) ⌝ }
+    requires { ⌜ Placeable at (pick wanted (octet ∷ []) []) ⌝ }
     ensures { λ r. ⌜ Put (now (out .entry)) at (pick wanted (octet ∷ []) []) (now (out .exit)) r ⌝ }
 {
     if wanted {
@@ -53,7 +53,7 @@ fn put_if(wanted: bool, octet: u8, out: &mut [u8], at: usize) -> usize
 }
 
 fn put_text(text: &[u8], out: &mut [u8], at: usize) -> usize
-    requires { ⌜ Room at (now text) ⌝ }
+    requires { ⌜ Placeable at (now text) ⌝ }
     ensures { λ r. ⌜ Put (now (out .entry)) at (now (text .entry)) (now (out .exit)) r ⌝ }
 {
     let mut end = at;
@@ -76,7 +76,7 @@ fn digit(d: u64) -> u8
 
 // An octet in two hex digits.
 fn put_hex(octet: u8, out: &mut [u8], at: usize) -> usize
-    requires { ⌜ Room at (hex octet) ⌝ }
+    requires { ⌜ Placeable at (hex octet) ⌝ }
     ensures { λ r. ⌜ Put (now (out .entry)) at (hex octet) (now (out .exit)) r ⌝ }
 {
     let v = octet as u64;
@@ -86,7 +86,7 @@ fn put_hex(octet: u8, out: &mut [u8], at: usize) -> usize
 
 // A number in decimal, its digits from the highest power of ten down.
 fn put_decimal(number: u64, out: &mut [u8], at: usize) -> usize
-    requires { ⌜ Room at (decimal number) ⌝ }
+    requires { ⌜ Placeable at (decimal number) ⌝ }
     ensures { λ r. ⌜ Put (now (out .entry)) at (decimal number) (now (out .exit)) r ⌝ }
 {
     let mut end = at;
@@ -101,7 +101,7 @@ fn put_decimal(number: u64, out: &mut [u8], at: usize) -> usize
 
 // A line of a key and a number.
 fn put_number_line(key: &[u8], number: u64, out: &mut [u8], at: usize) -> usize
-    requires { ⌜ Room at (numberLine (now key) number) ⌝ }
+    requires { ⌜ Placeable at (numberLine (now key) number) ⌝ }
     ensures { λ r. ⌜ Put (now (out .entry)) at (numberLine (now (key .entry)) number) (now (out .exit)) r ⌝ }
 {
     let after = put_text(key, out, at);
@@ -111,7 +111,7 @@ fn put_number_line(key: &[u8], number: u64, out: &mut [u8], at: usize) -> usize
 
 // The line of an operator.
 fn put_op(octet: u8, value: u64, out: &mut [u8], at: usize) -> usize
-    requires { ⌜ Room at (opLine (op octet value)) ⌝ }
+    requires { ⌜ Placeable at (opLine (op octet value)) ⌝ }
     ensures { λ r. ⌜ Put (now (out .entry)) at (opLine (op octet value)) (now (out .exit)) r ⌝ }
 {
     let key = put_text(b"op=", out, at);
@@ -132,7 +132,7 @@ fn put_ops(
 ) -> usize
     requires values { ⌜ start + count ≤ length (now values) ⌝ }
     requires octets { ⌜ start + count ≤ length (now octets) ⌝ }
-    requires room { ⌜ Room at (opLines (opsIn (now values) (now octets) start count)) ⌝ }
+    requires placeable { ⌜ Placeable at (opLines (opsIn (now values) (now octets) start count)) ⌝ }
     ensures { λ r. ⌜ Put (now (out .entry)) at (opLines (opsIn (now (values .entry)) (now (octets .entry)) start count)) (now (out .exit)) r ⌝ }
 {
     let mut end = at;
@@ -149,7 +149,7 @@ fn put_ops(
 
 // An IPv4 address.
 fn put_dotted(address: u32, out: &mut [u8], at: usize) -> usize
-    requires { ⌜ Room at (dotted address) ⌝ }
+    requires { ⌜ Placeable at (dotted address) ⌝ }
     ensures { λ r. ⌜ Put (now (out .entry)) at (dotted address) (now (out .exit)) r ⌝ }
 {
     let a = address as u64;
@@ -164,7 +164,7 @@ fn put_dotted(address: u32, out: &mut [u8], at: usize) -> usize
 
 // The line of a prefix: the IPv4 reading gives no other form than the first.
 fn put_prefix(prefix: NetworkPrefix, out: &mut [u8], at: usize) -> usize
-    requires { ⌜ Room at (prefixLine prefix) ⌝ }
+    requires { ⌜ Placeable at (prefixLine prefix) ⌝ }
     ensures { λ r. ⌜ Put (now (out .entry)) at (prefixLine prefix) (now (out .exit)) r ⌝ }
 {
     match prefix {
@@ -190,7 +190,7 @@ fn put_prefix(prefix: NetworkPrefix, out: &mut [u8], at: usize) -> usize
 
 // The line of an IPv4 prefix.
 fn put_ipv4(length: u8, address: u32, out: &mut [u8], at: usize) -> usize
-    requires { ⌜ Room at (prefixLine (NetworkPrefix.Ipv4 length address)) ⌝ }
+    requires { ⌜ Placeable at (prefixLine (NetworkPrefix.Ipv4 length address)) ⌝ }
     ensures { λ r. ⌜ Put (now (out .entry)) at (prefixLine (NetworkPrefix.Ipv4 length address)) (now (out .exit)) r ⌝ }
 {
     let key = put_text(b"prefix=", out, at);
@@ -202,17 +202,17 @@ fn put_ipv4(length: u8, address: u32, out: &mut [u8], at: usize) -> usize
 
 // The lines of a component.
 fn put_piece(piece: Piece, values: &[u64], octets: &[u8], out: &mut [u8], at: usize) -> usize
-    requires within { ⌜ Within (length (now values)) (length (now octets)) piece ⌝ }
-    requires room { ⌜ Room at (pieceLines (now values) (now octets) piece) ⌝ }
+    requires backed { ⌜ Backed (length (now values)) (length (now octets)) piece ⌝ }
+    requires placeable { ⌜ Placeable at (pieceLines (now values) (now octets) piece) ⌝ }
     ensures { λ r. ⌜ Put (now (out .entry)) at (pieceLines (now (values .entry)) (now (octets .entry)) piece) (now (out .exit)) r ⌝ }
 {
     match piece {
-        Piece::Prefix { kind, prefix } => {
-            let next = put_number_line(b"type=", kind as u64, out, at);
+        Piece::Prefix { tag, prefix } => {
+            let next = put_number_line(b"type=", tag as u64, out, at);
             put_prefix(prefix, out, next)
         }
-        Piece::Operators { kind, start, count } => {
-            let next = put_number_line(b"type=", kind as u64, out, at);
+        Piece::Operators { tag, start, count } => {
+            let next = put_number_line(b"type=", tag as u64, out, at);
             let first = put_number_line(b"ops=", count as u64, out, next);
             put_ops(values, octets, start, count, out, first)
         }
@@ -221,87 +221,78 @@ fn put_piece(piece: Piece, values: &[u64], octets: &[u8], out: &mut [u8], at: us
 }
 
 // The lines of a rule's components.
-fn put_components(
-    rule: FlowSpecNlri,
-    values: &[u64],
-    octets: &[u8],
-    out: &mut [u8],
-    at: usize,
-) -> usize
-    requires whole { ⌜ Whole rule (length (now values)) (length (now octets)) ⌝ }
-    requires room { ⌜ Room at (componentLines (now values) (now octets) (componentsOf rule)) ⌝ }
-    ensures { λ r. ⌜ Put (now (out .entry)) at (componentLines (now (values .entry)) (now (octets .entry)) (componentsOf rule)) (now (out .exit)) r ⌝ }
+fn put_components(words: &[u64], values: &[u64], octets: &[u8], out: &mut [u8], at: usize) -> usize
+    requires listable { ⌜ Listable (now words) (length (now values)) (length (now octets)) ⌝ }
+    requires placeable { ⌜ Placeable at (componentLines (now values) (now octets) (storedAt (now words) 0 .pieces)) ⌝ }
+    ensures { λ r. ⌜ Put (now (out .entry)) at (componentLines (now (values .entry)) (now (octets .entry)) (storedAt (now (words .entry)) 0 .pieces)) (now (out .exit)) r ⌝ }
 {
-    let slots = rule.slots;
-    let count = rule.count;
+    let count = stored::count_at(words, 0);
     let mut end = at;
     let mut i = 0;
     while i < count {
-        let slot = slots[i];
-        let component = slot.component;
-        end = put_piece(pieces::piece_of(component), values, octets, out, end);
+        let piece = stored::piece_at(words, 4 * i);
+        end = put_piece(piece, values, octets, out, end);
         i += 1;
     }
     end
 }
 
 // The listing of a rule.
-fn put_rule(used: usize, rule: FlowSpecNlri, values: &[u64], octets: &[u8], out: &mut [u8]) -> usize
-    requires whole { ⌜ Whole rule (length (now values)) (length (now octets)) ⌝ }
-    requires room { ⌜ Room 0 (ruleLines used (componentsOf rule) (now values) (now octets)) ⌝ }
-    ensures { λ r. ⌜ Put (now (out .entry)) 0 (ruleLines used (componentsOf rule) (now (values .entry)) (now (octets .entry))) (now (out .exit)) r ⌝ }
+fn put_rule(used: usize, words: &[u64], values: &[u64], octets: &[u8], out: &mut [u8]) -> usize
+    requires listable { ⌜ Listable (now words) (length (now values)) (length (now octets)) ⌝ }
+    requires placeable { ⌜ Placeable 0 (ruleLines used (storedAt (now words) 0 .pieces) (now values) (now octets)) ⌝ }
+    ensures { λ r. ⌜ Put (now (out .entry)) 0 (ruleLines used (storedAt (now (words .entry)) 0 .pieces) (now (values .entry)) (now (octets .entry))) (now (out .exit)) r ⌝ }
 {
     let status = put_text(b"reading=ipv4\n", out, 0);
     let length = put_number_line(b"status=", 0, out, status);
     let count = put_number_line(b"used=", used as u64, out, length);
-    let first = put_number_line(b"components=", rule.count as u64, out, count);
-    put_components(rule, values, octets, out, first)
+    let first = put_number_line(
+        b"components=",
+        stored::count_at(words, 0) as u64,
+        out,
+        count,
+    );
+    put_components(words, values, octets, out, first)
 }
 
 // The numbers that a refusal carries, joined by commas.
-fn put_carried(error: FlowSpecError, out: &mut [u8], at: usize) -> usize
-    requires { ⌜ Room at (commas (carriedOf error)) ⌝ }
-    ensures { λ r. ⌜ Put (now (out .entry)) at (commas (carriedOf error)) (now (out .exit)) r ⌝ }
+fn put_carried(numbers: Numbers, out: &mut [u8], at: usize) -> usize
+    requires { ⌜ Placeable at (commas (carriedIn numbers)) ⌝ }
+    ensures { λ r. ⌜ Put (now (out .entry)) at (commas (carriedIn numbers)) (now (out .exit)) r ⌝ }
 {
-    let count = refusals::carried_count(error);
-    if count == 0 {
+    if numbers.count == 0 {
         return at;
     }
-    let end = put_decimal(refusals::first_carried(error), out, at);
-    if count == 1 {
+    let end = put_decimal(numbers.first, out, at);
+    if numbers.count == 1 {
         return end;
     }
     let second = put(b',', out, end);
-    put_decimal(refusals::second_carried(error), out, second)
+    put_decimal(numbers.second, out, second)
 }
 
 // The listing of a refusal.
 fn put_refusal(fault: Fault, out: &mut [u8]) -> usize
-    requires { ⌜ Room 0 (refusalLines (numberOf (fault .error)) (carriedOf (fault .error))) ⌝ }
+    requires { ⌜ Placeable 0 (refusalLines (numberOf (fault .error)) (carriedOf (fault .error))) ⌝ }
     ensures { λ r. ⌜ Put (now (out .entry)) 0 (refusalLines (numberOf (fault .error)) (carriedOf (fault .error))) (now (out .exit)) r ⌝ }
 {
     let error = fault.error;
+    let numbers = refusals::numbered(error);
     let status = put_text(b"reading=ipv4\n", out, 0);
-    let detail = put_number_line(b"status=", refusals::number(error) as u64, out, status);
+    let detail = put_number_line(b"status=", numbers.number as u64, out, status);
     let first = put_text(b"detail=", out, detail);
-    let end = put_carried(error, out, first);
+    let end = put_carried(numbers, out, first);
     put(b'\n', out, end)
 }
 
-// The listing of what was read. The rule stands beside the answer, and is not looked at beside a refusal.
-fn put_answer(
-    read: ReadInto,
-    rule: FlowSpecNlri,
-    values: &[u64],
-    octets: &[u8],
-    out: &mut [u8],
-) -> usize
-    requires whole { ⌜ Whole rule (length (now values)) (length (now octets)) ⌝ }
-    requires room { ⌜ Room 0 (linesOf (toldInto read) (componentsOf rule) (now values) (now octets)) ⌝ }
-    ensures { λ r. ⌜ Put (now (out .entry)) 0 (linesOf (toldInto read) (componentsOf rule) (now (values .entry)) (now (octets .entry))) (now (out .exit)) r ⌝ }
+// The listing of what was read. The rule's words stand beside the answer, and are not looked at beside a refusal.
+fn put_answer(read: ReadInto, words: &[u64], values: &[u64], octets: &[u8], out: &mut [u8]) -> usize
+    requires listable { ⌜ Listable (now words) (length (now values)) (length (now octets)) ⌝ }
+    requires placeable { ⌜ Placeable 0 (linesOf (toldInto read) (storedAt (now words) 0 .pieces) (now values) (now octets)) ⌝ }
+    ensures { λ r. ⌜ Put (now (out .entry)) 0 (linesOf (toldInto read) (storedAt (now (words .entry)) 0 .pieces) (now (values .entry)) (now (octets .entry))) (now (out .exit)) r ⌝ }
 {
     match read {
-        ReadInto::Read { used, operators: _ } => put_rule(used, rule, values, octets, out),
+        ReadInto::Read { used, operators: _ } => put_rule(used, words, values, octets, out),
         ReadInto::Refused(fault) => put_refusal(fault, out),
     }
 }
@@ -332,16 +323,14 @@ pub fn list(input: &[u8], out: &mut [u8]) -> Listed
     let mut values = [0u64; 2047];
     let mut octets = [0u8; 2047];
     let read = read_listed(input, &mut words, &mut values, &mut octets);
-    let stored = stored::rule_at(&words, 0);
-    let rule = stored.rule;
     let mut nothing = [0u8; 0];
-    let needed = put_answer(read, rule, &values, &octets, &mut nothing);
+    let needed = put_answer(read, &words, &values, &octets, &mut nothing);
     if out.len() < needed {
         return Listed::Refused(Fault {
             error: FlowSpecError::NoRoom(needed),
         });
     }
-    put_answer(read, rule, &values, &octets, out);
+    put_answer(read, &words, &values, &octets, out);
     Listed::Octets(needed)
 }
 
@@ -349,7 +338,7 @@ pub fn list(input: &[u8], out: &mut [u8]) -> Listed
 pub fn list_whole(input: &[u8], out: &mut [u8; 65536]) -> usize
     ensures size { λ r. ⌜ r ≡ length (listingOf (now (input .entry))) ⌝ }
     ensures out { λ r. ⌜ now (out .exit) ≡ sets (now (out .entry)) 0 (listingOf (now (input .entry))) ⌝ }
-    ensures within { λ r. ⌜ (r ≤ length (now (out .exit))) × (r ≡ length (take r (now (out .exit)))) ⌝ }
+    ensures inside { λ r. ⌜ (r ≤ length (now (out .exit))) × (r ≡ length (take r (now (out .exit)))) ⌝ }
 {
     match list(input, out) {
         Listed::Octets(size) => size,

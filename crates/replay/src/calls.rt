@@ -94,13 +94,12 @@ fn bitmask_record(line: &[u8], out: &mut [u8]) -> usize {
     put_octet(out, at, o.to_byte())
 }
 
-// The NLRI in a field, read in a family or, with 0 for the family, by the plain reading: its rule as text.
-fn parse(line: &[u8], field: u8, family: u8, out: &mut [u8]) -> usize {
+// The NLRI in field 1 by the plain reading: its rule as text.
+fn parse(line: &[u8], out: &mut [u8]) -> usize {
     let mut words = [0u64; 64];
     let mut values = [0u64; 2100];
     let mut octets = [0u8; 2100];
-    let from = super::text::place(line, field);
-    match super::ruletext::read_nlri(line, from, family, &mut words, &mut values, &mut octets) {
+    match super::ruletext::read_nlri(line, 6, &mut words, &mut values, &mut octets) {
         ReadInto::Read {
             used: _,
             operators: _,
@@ -109,7 +108,7 @@ fn parse(line: &[u8], field: u8, family: u8, out: &mut [u8]) -> usize {
     }
 }
 
-fn put_read(words: &[u64], values: &[u64], octets: &[u8], out: &mut [u8]) -> usize {
+fn put_read(words: &[u64; 64], values: &[u64], octets: &[u8], out: &mut [u8]) -> usize {
     let end = super::text::put_number(out, 0, 0);
     let at = super::text::put(out, end, b' ');
     super::ruletext::put_rule(out, at, words, values, octets)
@@ -148,7 +147,7 @@ fn rule_in(line: &[u8], from: usize) -> FlowSpecNlri {
     let mut values = [0u64; 2100];
     let mut octets = [0u8; 2100];
     super::ruletext::read_rule(line, from, &mut words, &mut values, &mut octets);
-    let read = stored::rule_at(&words, 0);
+    let read = nlri::rule_at(&words, 0);
     read.rule
 }
 
@@ -189,7 +188,7 @@ fn answer(line: &[u8], out: &mut [u8]) -> usize {
         return bitmask_record(line, out);
     }
     if super::text::is(line, b"parse") {
-        return parse(line, 1, 0, out);
+        return parse(line, out);
     }
     if super::text::is(line, b"encode") {
         return encode(line, out);
@@ -217,23 +216,6 @@ fn constructed(line: &[u8], out: &mut [u8]) -> usize {
     }
     if super::text::is(line, b"partial_match") {
         return put_bitmask(out, BitmaskOperator::partial_match(value));
-    }
-    decided(line, out)
-}
-
-// The answers that take the standard reading.
-fn decided(line: &[u8], out: &mut [u8]) -> usize {
-    if super::text::is(line, b"standard") {
-        return parse(line, 2, super::text::octet(line, 1), out);
-    }
-    if super::text::is(line, b"match") {
-        return super::deciding::matches(line, out);
-    }
-    if super::text::is(line, b"rank") {
-        return super::deciding::rank(line, out);
-    }
-    if super::text::is(line, b"choose") {
-        return super::deciding::choose(line, out);
     }
     0
 }

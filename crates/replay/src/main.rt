@@ -1,9 +1,7 @@
 // Replays the stored answers of the Rust: each line of standard input is a request and the answer, `numeric 89 6 = 5 89`. The
 // request is put to the proved code, and its answer must be the same text. Says how many lines were compared, and prints each that
-// differs. The list is made by tools/store-answers: first the answers of the original Rust, whose lines `oracle --help` (rust/oracle)
-// explains, then those of rust/standard, explained in deciding.rt.
+// differs. The list is made by tools/store-answers of the answers of the original Rust; `oracle --help` (rust/oracle) explains its lines.
 mod calls;
-mod deciding;
 mod ruletext;
 mod text;
 

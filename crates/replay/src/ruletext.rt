@@ -6,6 +6,8 @@ use choices::Reading;
 use reading::ReadInto;
 use refusals::Fault;
 use refusals::FlowSpecError;
+use rules::NetworkPrefix;
+use stored::Piece;
 
 // A number that was read, and the place after it.
 pub struct Taken {
@@ -13,28 +15,12 @@ pub struct Taken {
     pub next: usize,
 }
 
-// A place in the text, and how many operators stand before it.
-pub struct Reached {
-    pub at: usize,
-    pub operators: usize,
-}
-
-pub fn store(words: &mut [u64], place: usize, word: u64) {
-    if place < words.len() {
-        words[place] = word;
-    }
-}
-
-fn word_at(words: &[u64], place: usize) -> u64 {
-    if place < words.len() { words[place] } else { 0 }
-}
-
-pub fn octet_at(s: &[u8], at: usize) -> u8 {
+fn octet_at(s: &[u8], at: usize) -> u8 {
     if at < s.len() { s[at] } else { b' ' }
 }
 
 // A place further, where the text has this octet.
-pub fn past(s: &[u8], at: usize, octet: u8) -> usize {
+fn past(s: &[u8], at: usize, octet: u8) -> usize {
     if at < s.len() {
         if s[at] == octet {
             return at + 1;
@@ -93,7 +79,7 @@ fn hex(s: &[u8], from: usize, digits: u8) -> Taken {
 }
 
 // The octets of a text of hex pairs, up to the first that stands in none; `-` for none. Answers how many.
-pub fn read_octets(s: &[u8], from: usize, out: &mut [u8]) -> usize {
+fn read_octets(s: &[u8], from: usize, out: &mut [u8]) -> usize {
     let mut at = from;
     let mut n: usize = 0;
     let mut turns = s.len();
@@ -110,23 +96,21 @@ pub fn read_octets(s: &[u8], from: usize, out: &mut [u8]) -> usize {
     n
 }
 
-// The NLRI at a place of a line, read in a family or, with 0 for the family, by the plain reading.
+// The NLRI at a place of a line, by the plain reading.
 pub fn read_nlri(
     line: &[u8],
     from: usize,
-    family: u8,
     words: &mut [u64],
     values: &mut [u64],
     octets: &mut [u8],
 ) -> ReadInto {
     let mut input = [0u8; 5000];
     let n = read_octets(line, from, &mut input);
-    read_front(family, &input, n, words, values, octets)
+    read_front(&input, n, words, values, octets)
 }
 
 // What is in the first octets.
 fn read_front(
-    family: u8,
     input: &[u8],
     n: usize,
     words: &mut [u64],
@@ -138,68 +122,102 @@ fn read_front(
             error: FlowSpecError::InputTooLong(n),
         });
     }
-    let front = &input[..n];
-    if family == 0 {
-        return reading::read_into(Reading::Plain, front, words, values, octets);
-    }
-    reading::read(family, front, words, values, octets)
+    reading::read_into(Reading::Plain, &input[..n], words, values, octets)
 }
 
-fn past_digit(s: &[u8], at: usize) -> usize {
-    if at < s.len() { at + 1 } else { at }
-}
-
-// What stands before a prefix's address: its form times 16, its length and 256 times its offset, and the place after them.
-pub struct Range {
-    pub form: u64,
-    pub word: u64,
+// What stands between a prefix's family digit and its address.
+pub struct Front {
+    pub has_offset: bool,
+    pub offset: u8,
+    pub length: u8,
     pub next: usize,
 }
 
-fn range_at(s: &[u8], from: usize) -> Range {
-    let mut form: u64 = 0;
-    if octet_at(s, from) == b'6' {
-        form = 16;
-    }
-    let at = past_digit(s, from);
-    if octet_at(s, at) == b'o' {
-        let offset = decimal(s, past(s, past(s, at, b'o'), b'/'));
-        let length = decimal(s, past(s, offset.next, b'/'));
-        return Range {
-            form: form % 32 + 32,
-            word: length.value % 256 + 256 * (offset.value % 256),
+fn front_at(s: &[u8], at: usize) -> Front {
+    let has_offset = octet_at(s, at) == b'o';
+    let first = decimal(s, past(s, past(s, at, b'o'), b'/'));
+    if has_offset {
+        let length = decimal(s, past(s, first.next, b'/'));
+        return Front {
+            has_offset: true,
+            offset: (first.value % 256) as u8,
+            length: (length.value % 256) as u8,
             next: past(s, length.next, b'/'),
         };
     }
-    let length = decimal(s, past(s, at, b'/'));
-    Range {
-        form: form,
-        word: length.value % 256,
-        next: past(s, length.next, b'/'),
+    Front {
+        has_offset: false,
+        offset: 0,
+        length: (first.value % 256) as u8,
+        next: past(s, first.next, b'/'),
     }
 }
 
-// The prefix of a type, from its family digit on, to the four words of a group.
-fn read_prefix(s: &[u8], from: usize, kind: u64, words: &mut [u64], group: usize) -> usize {
-    if 13 <= group {
-        return s.len();
-    }
-    let range = range_at(s, from);
-    store(words, 4 * group, kind % 16 + range.form % 64);
-    store(words, 4 * group + 1, range.word);
-    if range.form % 32 == 16 {
-        let high = hex(s, range.next, 16);
-        let low = hex(s, high.next, 16);
-        store(words, 4 * group + 2, high.value);
-        store(words, 4 * group + 3, low.value);
-        return low.next;
-    }
-    let address = hex(s, range.next, 8);
-    store(words, 4 * group + 2, address.value);
-    address.next
+pub struct PrefixRead {
+    pub prefix: NetworkPrefix,
+    pub next: usize,
 }
 
-// One operator, `OO=VALUE`, to the lists at a place.
+fn ipv4_at(s: &[u8], front: Front) -> PrefixRead {
+    let address = hex(s, front.next, 8);
+    if front.has_offset {
+        return PrefixRead {
+            prefix: NetworkPrefix::Ipv4Offset {
+                length: front.length,
+                offset: front.offset,
+                address: (address.value % 4294967296) as u32,
+            },
+            next: address.next,
+        };
+    }
+    PrefixRead {
+        prefix: NetworkPrefix::Ipv4 {
+            length: front.length,
+            address: (address.value % 4294967296) as u32,
+        },
+        next: address.next,
+    }
+}
+
+fn ipv6_at(s: &[u8], front: Front) -> PrefixRead {
+    let high = hex(s, front.next, 16);
+    let low = hex(s, high.next, 16);
+    if front.has_offset {
+        return PrefixRead {
+            prefix: NetworkPrefix::Ipv6Offset {
+                length: front.length,
+                offset: front.offset,
+                high: high.value,
+                low: low.value,
+            },
+            next: low.next,
+        };
+    }
+    PrefixRead {
+        prefix: NetworkPrefix::Ipv6 {
+            length: front.length,
+            high: high.value,
+            low: low.value,
+        },
+        next: low.next,
+    }
+}
+
+// A prefix, from its family digit on.
+fn prefix_at(s: &[u8], at: usize) -> PrefixRead {
+    if octet_at(s, at) == b'6' {
+        return ipv6_at(s, front_at(s, past(s, at, b'6')));
+    }
+    ipv4_at(s, front_at(s, past(s, at, b'4')))
+}
+
+fn store(values: &mut [u64], place: usize, value: u64) {
+    if place < values.len() {
+        values[place] = value;
+    }
+}
+
+// One operator, `OO=VALUE`, to the lists at a place. Answers the place after it and a comma.
 fn read_operator(
     s: &[u8],
     from: usize,
@@ -211,10 +229,16 @@ fn read_operator(
     let value = decimal(s, past(s, octet.next, b'='));
     store(values, place, value.value);
     put(octets, place, (octet.value % 256) as u8);
-    value.next
+    past(s, value.next, b',')
 }
 
-// The operators up to the component's end.
+// A place in the text, and how many operators stand before it.
+pub struct Reached {
+    pub at: usize,
+    pub operators: usize,
+}
+
+// The operators up to the component's end, to the lists from a place on. No text has more of them than octets.
 fn read_list(
     s: &[u8],
     from: usize,
@@ -223,25 +247,23 @@ fn read_list(
     first: usize,
 ) -> Reached {
     let mut at = from;
-    let mut n = first;
-    let mut turns = s.len();
-    while 0 < turns {
-        let octet = octet_at(s, at);
-        if octet == b';' {
+    let mut n: usize = 0;
+    while n < s.len() {
+        if octet_at(s, at) < b'0' {
             return Reached {
                 at: at,
                 operators: n,
             };
         }
-        if octet == b' ' {
+        if octet_at(s, at) == b';' {
             return Reached {
                 at: at,
                 operators: n,
             };
         }
-        at = past(s, read_operator(s, at, values, octets, n), b',');
-        n = next_of(n);
-        turns -= 1;
+        let place = std::num::wrapping_add_u64(first as u64, n as u64) as usize;
+        at = read_operator(s, at, values, octets, place);
+        n += 1;
     }
     Reached {
         at: at,
@@ -249,64 +271,68 @@ fn read_list(
     }
 }
 
-fn next_of(n: usize) -> usize {
-    if n < 100000 { n + 1 } else { n }
+// A component, the place after it, and how many operators stand before that.
+pub struct PieceRead {
+    pub piece: Piece,
+    pub next: usize,
+    pub operators: usize,
 }
 
-// A list's group: its type, where its operators start, and how many there are up to an end.
-fn store_list(words: &mut [u64], group: usize, kind: u64, start: usize, end: usize) {
-    if 13 <= group {
-        return;
-    }
-    if end < start {
-        return;
-    }
-    store(words, 4 * group, kind);
-    store(words, 4 * group + 1, start as u64);
-    store(words, 4 * group + 2, (end - start) as u64);
-}
-
-// One component, to the group of a place.
-fn read_component(
+fn read_piece(
     s: &[u8],
     from: usize,
-    words: &mut [u64],
-    group: usize,
     values: &mut [u64],
     octets: &mut [u8],
     operators: usize,
-) -> Reached {
-    let kind = decimal(s, from);
-    let at = past(s, kind.next, b':');
-    if kind.value < 3 {
-        return Reached {
-            at: read_prefix(s, at, kind.value, words, group),
+) -> PieceRead {
+    let number = decimal(s, from);
+    let tag = (number.value % 256) as u8;
+    let at = past(s, number.next, b':');
+    if tag < 3 {
+        let p = prefix_at(s, at);
+        let prefix = p.prefix;
+        return PieceRead {
+            piece: Piece::Prefix {
+                tag: tag,
+                prefix: prefix,
+            },
+            next: p.next,
             operators: operators,
         };
     }
     let list = read_list(s, at, values, octets, operators);
-    store_list(words, group, kind.value, operators, list.operators);
-    list
+    PieceRead {
+        piece: Piece::Operators {
+            tag: tag,
+            start: operators,
+            count: list.operators,
+        },
+        next: list.at,
+        operators: std::num::wrapping_add_u64(operators as u64, list.operators as u64) as usize,
+    }
 }
 
-// A whole rule, to words that were 0 and the lists.
+// A whole rule, to the words and the lists.
 pub fn read_rule(s: &[u8], from: usize, words: &mut [u64], values: &mut [u64], octets: &mut [u8]) {
-    let mut at = from;
-    let mut operators: usize = 0;
-    let mut group: usize = 0;
-    if octet_at(s, at) == b'-' {
+    if words.len() < 64 {
         return;
     }
-    while group < 13 {
-        let r = read_component(s, at, words, group, values, octets, operators);
-        operators = r.operators;
-        group += 1;
-        store(words, 52, group as u64);
-        if octet_at(s, r.at) != b';' {
+    let mut at = from;
+    let mut operators: usize = 0;
+    let mut count: usize = 0;
+    while count < 13 {
+        if octet_at(s, at) < b'0' {
+            stored::put_tail(words, 0, count, 0, 0);
             return;
         }
-        at = past(s, r.at, b';');
+        let read = read_piece(s, at, values, octets, operators);
+        let piece = read.piece;
+        stored::put_piece(words, 4 * count, piece);
+        operators = read.operators;
+        at = past(s, read.next, b';');
+        count += 1;
     }
+    stored::put_tail(words, 0, count, 0, 0);
 }
 
 // An octet, if it is wanted.
@@ -367,43 +393,65 @@ pub fn put_octets(out: &mut [u8], at: usize, octets: &[u8], n: usize) -> usize {
     end
 }
 
-// The family digit of a form, and the offset of a form that has one.
-fn put_form(out: &mut [u8], at: usize, form: u64, offset: u64) -> usize {
-    let mut end = put_if(out, at, form % 2 == 0, b'4');
-    end = put_if(out, end, form % 2 == 1, b'6');
-    if form < 2 {
-        return end;
-    }
-    end = put(out, end, b'o');
-    end = put(out, end, b'/');
-    put_decimal(out, end, offset)
+// A prefix's length, and what stands before and after it.
+fn put_length(out: &mut [u8], at: usize, length: u8) -> usize {
+    let start = put(out, at, b'/');
+    let end = put_decimal(out, start, length as u64);
+    put(out, end, b'/')
 }
 
-fn put_prefix(out: &mut [u8], at: usize, words: &[u64], group: usize) -> usize {
-    if 13 <= group {
+fn put_offset(out: &mut [u8], at: usize, offset: u8) -> usize {
+    let sign = put(out, at, b'o');
+    let start = put(out, sign, b'/');
+    put_decimal(out, start, offset as u64)
+}
+
+fn put_prefix(out: &mut [u8], at: usize, prefix: NetworkPrefix) -> usize {
+    match prefix {
+        NetworkPrefix::Ipv4 { length, address } => {
+            let mut end = put(out, at, b'4');
+            end = put_length(out, end, length);
+            put_hex(out, end, address as u64, 8)
+        }
+        NetworkPrefix::Ipv6 { length, high, low } => {
+            let mut end = put(out, at, b'6');
+            end = put_length(out, end, length);
+            end = put_hex(out, end, high, 16);
+            put_hex(out, end, low, 16)
+        }
+        NetworkPrefix::Ipv4Offset {
+            length,
+            offset,
+            address,
+        } => {
+            let mut end = put(out, at, b'4');
+            end = put_offset(out, end, offset);
+            end = put_length(out, end, length);
+            put_hex(out, end, address as u64, 8)
+        }
+        NetworkPrefix::Ipv6Offset {
+            length,
+            offset,
+            high,
+            low,
+        } => {
+            let mut end = put(out, at, b'6');
+            end = put_offset(out, end, offset);
+            end = put_length(out, end, length);
+            end = put_hex(out, end, high, 16);
+            put_hex(out, end, low, 16)
+        }
+    }
+}
+
+// The operator at a place of the lists.
+fn put_operator(out: &mut [u8], at: usize, values: &[u64], octets: &[u8], place: usize) -> usize {
+    if values.len() <= place {
         return at;
     }
-    let form = word_at(words, 4 * group) / 16;
-    let range = word_at(words, 4 * group + 1);
-    let mut end = put_form(out, at, form, range / 256);
-    end = put(out, end, b'/');
-    end = put_decimal(out, end, range % 256);
-    end = put(out, end, b'/');
-    put_address(
-        out,
-        end,
-        form,
-        word_at(words, 4 * group + 2),
-        word_at(words, 4 * group + 3),
-    )
-}
-
-fn put_address(out: &mut [u8], at: usize, form: u64, high: u64, low: u64) -> usize {
-    if form % 2 == 0 {
-        return put_hex(out, at, high, 8);
-    }
-    let end = put_hex(out, at, high, 16);
-    put_hex(out, end, low, 16)
+    let sign = put_octet(out, at, octets, place);
+    let value = put(out, sign, b'=');
+    put_decimal(out, value, values[place])
 }
 
 fn put_list(
@@ -411,59 +459,62 @@ fn put_list(
     at: usize,
     values: &[u64],
     octets: &[u8],
-    start: u64,
-    count: u64,
+    start: usize,
+    count: usize,
 ) -> usize {
     let mut end = at;
-    let mut i: u64 = 0;
+    let mut i: usize = 0;
     while i < count {
         end = put_if(out, end, 0 < i, b',');
-        let place = std::num::wrapping_add_u64(start, i) as usize;
-        end = put_octet(out, end, octets, place);
-        end = put(out, end, b'=');
-        end = put_decimal(out, end, word_at(values, place));
+        let place = std::num::wrapping_add_u64(start as u64, i as u64) as usize;
+        end = put_operator(out, end, values, octets, place);
         i += 1;
     }
     end
 }
 
+// A component's type and a colon.
+fn put_tag(out: &mut [u8], at: usize, tag: u8) -> usize {
+    let end = put_decimal(out, at, tag as u64);
+    put(out, end, b':')
+}
+
+fn put_piece(out: &mut [u8], at: usize, piece: Piece, values: &[u64], octets: &[u8]) -> usize {
+    match piece {
+        Piece::Prefix { tag, prefix } => {
+            let end = put_tag(out, at, tag);
+            put_prefix(out, end, prefix)
+        }
+        Piece::Operators { tag, start, count } => {
+            let end = put_tag(out, at, tag);
+            put_list(out, end, values, octets, start, count)
+        }
+        Piece::NoRecord => at,
+    }
+}
+
 // A whole rule.
-pub fn put_rule(out: &mut [u8], at: usize, words: &[u64], values: &[u64], octets: &[u8]) -> usize {
-    let count = word_at(words, 52);
+pub fn put_rule(
+    out: &mut [u8],
+    at: usize,
+    words: &[u64; 64],
+    values: &[u64],
+    octets: &[u8],
+) -> usize {
+    let count = stored::count_at(words, 0);
     if count == 0 {
         return put(out, at, b'-');
     }
     let mut end = at;
-    let mut group: usize = 0;
-    while group < 13 {
-        if count <= group as u64 {
+    let mut i: usize = 0;
+    while i < 13 {
+        if count <= i {
             return end;
         }
-        end = put_if(out, end, 0 < group, b';');
-        end = put_component(out, end, words, group, values, octets);
-        group += 1;
+        end = put_if(out, end, 0 < i, b';');
+        let piece = stored::piece_at(words, 4 * i);
+        end = put_piece(out, end, piece, values, octets);
+        i += 1;
     }
     end
-}
-
-fn put_component(
-    out: &mut [u8],
-    at: usize,
-    words: &[u64],
-    group: usize,
-    values: &[u64],
-    octets: &[u8],
-) -> usize {
-    if 13 <= group {
-        return at;
-    }
-    let kind = word_at(words, 4 * group);
-    let mut end = put_decimal(out, at, kind % 16);
-    end = put(out, end, b':');
-    if kind % 16 < 3 {
-        return put_prefix(out, end, words, group);
-    }
-    let start = word_at(words, 4 * group + 1);
-    let count = word_at(words, 4 * group + 2);
-    put_list(out, end, values, octets, start, count)
 }

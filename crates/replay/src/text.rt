@@ -142,16 +142,16 @@ pub fn put_flag(out: &mut [u8], at: usize, set: bool) -> usize {
 // A refusal: its number and what it carries.
 pub fn put_fault(out: &mut [u8], at: usize, fault: Fault) -> usize {
     let error = fault.error;
-    let end = put_number(out, at, refusals::number(error) as u64);
-    let count = refusals::carried_count(error);
-    if count == 0 {
+    let numbers = refusals::numbered(error);
+    let end = put_number(out, at, numbers.number as u64);
+    if numbers.count == 0 {
         return end;
     }
-    let first = put_number(out, end, refusals::first_carried(error));
-    if count == 1 {
+    let first = put_number(out, end, numbers.first);
+    if numbers.count == 1 {
         return first;
     }
-    put_number(out, first, refusals::second_carried(error))
+    put_number(out, first, numbers.second)
 }
 
 // Whether a line goes on from a place to its end as the first n octets say.

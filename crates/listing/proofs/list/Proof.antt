@@ -12,7 +12,6 @@ use Rattle.listing.proofs.list.Reads as reads
 use Rattle.listing.proofs.list.Lts as lts
 use Rattle.listing.proofs.put_answer.Reads as put-answer-reads
 use Rattle.listing.proofs.read_listed.Reads as read-listed-reads
-use Rattle.stored.proofs.rule_at.Reads as rule-at-reads
 
 slice-aggregate-read-listed : tie.Need-slice-aggregate-read-listed
 slice-aggregate-read-listed c = search needs
@@ -26,12 +25,6 @@ slice-aggregate-read-listed-3 c = search needs
 read-listed-requires : tie.Need-read-listed-requires
 read-listed-requires c κs = search needs
 
-slice-aggregate-rule-at : tie.Need-slice-aggregate-rule-at
-slice-aggregate-rule-at c = search needs
-
-rule-at-requires : tie.Need-rule-at-requires
-rule-at-requires c κs = search needs
-
 slice-aggregate-put-answer : tie.Need-slice-aggregate-put-answer
 slice-aggregate-put-answer c = search needs
 
@@ -41,43 +34,46 @@ slice-aggregate-put-answer-2 c = search needs
 slice-aggregate-put-answer-3 : tie.Need-slice-aggregate-put-answer-3
 slice-aggregate-put-answer-3 c = search needs
 
+slice-aggregate-put-answer-4 : tie.Need-slice-aggregate-put-answer-4
+slice-aggregate-put-answer-4 c = search needs
+
 put-answer-requires : tie.Need-put-answer-requires
 put-answer-requires c κs =
-    let r = c .before .before .before .before in
-    let h = r .before .before .before .before .before in
+    let h = c .before .before .before .before .before .before .before in
     let o = h .before .before .before .before .before in
     let a = o .before .args in
     let e = h .read-listed .ensures in
-    let g = given (a .input .now) (λ i. omega (arith, o .shared-slice-known .given i)) (h .read-listed .result) (e .0) (e .1 .0) (e .1 .1 .0) (e .1 .1 .1) (r .rule-at .ensures .1) in
-    (g .whole, g .room)
+    let g = given (a .input .now) (λ i. omega (arith, o .shared-slice-known .given i)) (h .read-listed .result) (e .0) (e .1 .0) (e .1 .1 .0) (e .1 .1 .1) in
+    (g .listable, g .placeable)
 
 returns : tie.Need-returns
 returns c =
     let p = c .before .before in
-    let r = p .before .before .before .before .before in
-    let h = r .before .before .before .before .before in
+    let h = p .before .before .before .before .before .before .before .before in
     let o = h .before .before .before .before .before in
     let a = o .before .args in
     let e = h .read-listed .ensures in
-    let g = given (a .input .now) (λ i. omega (arith, o .shared-slice-known .given i)) (h .read-listed .result) (e .0) (e .1 .0) (e .1 .1 .0) (e .1 .1 .1) (r .rule-at .ensures .1) in
+    let g = given (a .input .now) (λ i. omega (arith, o .shared-slice-known .given i)) (h .read-listed .result) (e .0) (e .1 .0) (e .1 .1 .0) (e .1 .1 .1) in
     let x = too-short (a .input .now) (a .out .now) (needed-is g (p .put-answer .ensures)) (c .if1 .taken) in
     (x .0, (x .1, g .most))
-
-slice-aggregate-put-answer-4 : tie.Need-slice-aggregate-put-answer-4
-slice-aggregate-put-answer-4 c = search needs
 
 slice-aggregate-put-answer-5 : tie.Need-slice-aggregate-put-answer-5
 slice-aggregate-put-answer-5 c = search needs
 
+slice-aggregate-put-answer-6 : tie.Need-slice-aggregate-put-answer-6
+slice-aggregate-put-answer-6 c = search needs
+
+slice-aggregate-put-answer-7 : tie.Need-slice-aggregate-put-answer-7
+slice-aggregate-put-answer-7 c = search needs
+
 put-answer-requires-2 : tie.Need-put-answer-requires-2
 put-answer-requires-2 c κs =
-    let r = c .before .before .before .before .before .before .before .before .before .before in
-    let h = r .before .before .before .before .before in
+    let h = c .before .before .before .before .before .before .before .before .before .before .before .before .before .before in
     let o = h .before .before .before .before .before in
     let a = o .before .args in
     let e = h .read-listed .ensures in
-    let g = given (a .input .now) (λ i. omega (arith, o .shared-slice-known .given i)) (h .read-listed .result) (e .0) (e .1 .0) (e .1 .1 .0) (e .1 .1 .1) (r .rule-at .ensures .1) in
-    (g .whole, g .room)
+    let g = given (a .input .now) (λ i. omega (arith, o .shared-slice-known .given i)) (h .read-listed .result) (e .0) (e .1 .0) (e .1 .1 .0) (e .1 .1 .1) in
+    (g .listable, g .placeable)
 
 same-length : tie.Need-same-length
 same-length c = search needs
@@ -85,14 +81,13 @@ same-length c = search needs
 returns-2 : tie.Need-returns-2
 returns-2 c =
     let q = c .before .before in
-    let j = q .before .before .before .before in
+    let j = q .before .before .before .before .before in
     let p = j .before .before in
-    let r = p .before .before .before .before .before in
-    let h = r .before .before .before .before .before in
+    let h = p .before .before .before .before .before .before .before .before in
     let o = h .before .before .before .before .before in
     let a = o .before .args in
     let e = h .read-listed .ensures in
-    let g = given (a .input .now) (λ i. omega (arith, o .shared-slice-known .given i)) (h .read-listed .result) (e .0) (e .1 .0) (e .1 .1 .0) (e .1 .1 .1) (r .rule-at .ensures .1) in
+    let g = given (a .input .now) (λ i. omega (arith, o .shared-slice-known .given i)) (h .read-listed .result) (e .0) (e .1 .0) (e .1 .1 .0) (e .1 .1 .1) in
     let x = enough (a .input .now) (a .out .now) (needed-is g (p .put-answer .ensures)) (j .if1 .left) (q .put-answer2 .ensures .stored ∙ ap (λ (xs : List ℕ). sets (a .out .now) 0 xs) (g .lines)) in
     (x .0, (x .1, g .most))
 
@@ -104,15 +99,15 @@ list-spec =
     slice-aggregate-read-listed-2
     slice-aggregate-read-listed-3
     read-listed-requires
-    slice-aggregate-rule-at
-    rule-at-requires
     slice-aggregate-put-answer
     slice-aggregate-put-answer-2
     slice-aggregate-put-answer-3
+    slice-aggregate-put-answer-4
     put-answer-requires
     returns
-    slice-aggregate-put-answer-4
     slice-aggregate-put-answer-5
+    slice-aggregate-put-answer-6
+    slice-aggregate-put-answer-7
     put-answer-requires-2
     same-length
     returns-2)

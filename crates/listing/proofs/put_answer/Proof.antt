@@ -1,9 +1,9 @@
 -- `listing::put_answer` meets its contract: by what was read.
 use mathlib.Core.Path.{sym, ap}
-use Rattle.rules.specs.Components.{componentsOf}
+use Rattle.stored.specs.Stored.{storedAt}
 use Rattle.reading.specs.Readings.{toldInto}
 use Rattle.listing.specs.Puts.{linesOf}
-use Rattle.listing.proofs.Joins.{put-same, room-same}
+use Rattle.listing.proofs.TextsInTurn.{put-same, placeable-same}
 use borrow.Author.Needs.{needs}
 use Rattle.listing.proofs.put_answer.Statement.{statement}
 use Rattle.listing.proofs.put_answer.Tie as tie
@@ -18,9 +18,9 @@ enum-known-read c = search needs
 put-rule-requires : tie.Need-put-rule-requires
 put-rule-requires c κs =
     let k = c .before .before in
-    let s = k .before .before .before .before .before in
+    let s = k .before .before .before .before .before .before in
     let a = s .args in
-    (s .pre .0, room-same (ap (λ q. linesOf (toldInto q) (componentsOf (a .rule)) (a .values .now) (a .octets .now)) (k .read .given .1)) (s .pre .1))
+    (s .pre .0, placeable-same (ap (λ q. linesOf (toldInto q) (storedAt (a .words .now) 0 .pieces) (a .values .now) (a .octets .now)) (k .read .given .1)) (s .pre .1))
 
 enum-known-read-2 : tie.Need-enum-known-read-2
 enum-known-read-2 c = search needs
@@ -28,9 +28,9 @@ enum-known-read-2 c = search needs
 put-refusal-requires : tie.Need-put-refusal-requires
 put-refusal-requires c κs =
     let k = c .before .before in
-    let s = k .before .before .before .before .before in
+    let s = k .before .before .before .before .before .before in
     let a = s .args in
-    room-same (ap (λ q. linesOf (toldInto q) (componentsOf (a .rule)) (a .values .now) (a .octets .now)) (k .read2 .given .1)) (s .pre .1)
+    placeable-same (ap (λ q. linesOf (toldInto q) (storedAt (a .words .now) 0 .pieces) (a .values .now) (a .octets .now)) (k .read2 .given .1)) (s .pre .1)
 
 same-length : tie.Need-same-length
 same-length c = search needs
@@ -39,8 +39,8 @@ returns : tie.Need-returns
 returns c =
     let h = c .before .before in
     let k = h .before .before .before in
-    let a = k .before .before .before .before .before .args in
-    put-same (sym (ap (λ q. linesOf (toldInto q) (componentsOf (a .rule)) (a .values .now) (a .octets .now)) (k .read .given .1))) (h .put-rule .ensures)
+    let a = k .before .before .before .before .before .before .args in
+    put-same (sym (ap (λ q. linesOf (toldInto q) (storedAt (a .words .now) 0 .pieces) (a .values .now) (a .octets .now)) (k .read .given .1))) (h .put-rule .ensures)
 
 same-length-2 : tie.Need-same-length-2
 same-length-2 c = search needs
@@ -49,8 +49,8 @@ returns-2 : tie.Need-returns-2
 returns-2 c =
     let h = c .before .before in
     let k = h .before .before .before in
-    let a = k .before .before .before .before .before .args in
-    put-same (sym (ap (λ q. linesOf (toldInto q) (componentsOf (a .rule)) (a .values .now) (a .octets .now)) (k .read2 .given .1))) (h .put-refusal .ensures)
+    let a = k .before .before .before .before .before .before .args in
+    put-same (sym (ap (λ q. linesOf (toldInto q) (storedAt (a .words .now) 0 .pieces) (a .values .now) (a .octets .now)) (k .read2 .given .1))) (h .put-refusal .ensures)
 
 pub put-answer-spec : {M : Type 1} → statement M
 put-answer-spec =

@@ -1,7 +1,7 @@
--- `listing::put_decimal` meets its contract. `Digits.antt` has the invariant, `Down`, and what a turn does to it.
+-- `listing::put_decimal` meets its contract. `DigitsInTurn.antt` has the invariant, `Down`, and what a turn does to it.
 use mathlib.Core.Path.{_∙_}
-use Rattle.listing.proofs.Joins.{kept}
-use Rattle.listing.proofs.Digits.{Down, down-first, down-room, down-more, last-room, down-last}
+use Rattle.listing.proofs.TextsInTurn.{kept}
+use Rattle.listing.proofs.DigitsInTurn.{Down, down-first, down-placeable, down-more, last-placeable, down-last}
 use borrow.Author.Needs.{needs}
 use Rattle.listing.proofs.put_decimal.Statement.{statement}
 use Rattle.listing.proofs.put_decimal.Tie as tie
@@ -30,7 +30,7 @@ put-if-requires : tie.Need-put-if-requires Inv-loop μ-loop
 put-if-requires c κs =
     let d = c .before in
     let l = d .before .before in
-    down-room _ (d .digit .ensures) (l .loop .inv) (search needs) (l .before .before .pre)
+    down-placeable _ (d .digit .ensures) (l .loop .inv) (search needs) (l .before .before .pre)
 
 loop-less : tie.Need-loop-less Inv-loop μ-loop
 loop-less c = search needs
@@ -49,7 +49,7 @@ put-requires : tie.Need-put-requires Inv-loop μ-loop
 put-requires c κs =
     let d = c .before in
     let l = d .before .before in
-    last-room _ (l .loop .inv) (search needs) (d .digit2 .ensures) (l .before .before .pre)
+    last-placeable _ (l .loop .inv) (search needs) (d .digit2 .ensures) (l .before .before .pre)
 
 same-length : tie.Need-same-length Inv-loop μ-loop
 same-length c =

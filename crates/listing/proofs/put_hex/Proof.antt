@@ -1,5 +1,5 @@
 -- `listing::put_hex` meets its contract: the two digits in turn.
-use Rattle.listing.proofs.Joins.{joins}
+use Rattle.listing.proofs.TextsInTurn.{joins}
 use borrow.Author.Needs.{needs}
 use Rattle.listing.proofs.put_hex.Statement.{statement}
 use Rattle.listing.proofs.put_hex.Tie as tie

@@ -1,7 +1,7 @@
 -- `listing::put_ipv4` meets its contract: its parts in turn.
 use native.Mathlib.Omega.{arith}
 use lib.ListN.{length-append}
-use Rattle.listing.proofs.Joins.{joins}
+use Rattle.listing.proofs.TextsInTurn.{joins}
 use borrow.Author.Needs.{needs}
 use Rattle.listing.proofs.put_ipv4.Statement.{statement}
 use Rattle.listing.proofs.put_ipv4.Tie as tie

@@ -2,7 +2,7 @@
 use native.Mathlib.Omega.{arith}
 use lib.ListN.{length-append}
 use Rattle.listing.specs.Listings.{numberLine}
-use Rattle.listing.proofs.Joins.{joins}
+use Rattle.listing.proofs.TextsInTurn.{joins}
 use borrow.Author.Needs.{needs}
 use Rattle.listing.proofs.put_number_line.Statement.{statement}
 use Rattle.listing.proofs.put_number_line.Tie as tie

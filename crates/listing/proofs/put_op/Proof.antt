@@ -1,7 +1,7 @@
 -- `listing::put_op` meets its contract: its parts in turn.
 use native.Mathlib.Omega.{arith}
 use lib.ListN.{length-append}
-use Rattle.listing.proofs.Joins.{joins}
+use Rattle.listing.proofs.TextsInTurn.{joins}
 use borrow.Author.Needs.{needs}
 use Rattle.listing.proofs.put_op.Statement.{statement}
 use Rattle.listing.proofs.put_op.Tie as tie

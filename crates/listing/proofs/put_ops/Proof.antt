@@ -1,9 +1,9 @@
--- `listing::put_ops` meets its contract: `Lines.antt` has what is left after so many operators.
+-- `listing::put_ops` meets its contract: `LinesInTurn.antt` has what is left after so many operators.
 use Prim.Native.Nat.{_-_, _≤_}
 use Rattle.operators.specs.Ops.{opsIn}
 use Rattle.listing.specs.Listings.{opLines}
-use Rattle.listing.proofs.Joins.{Left, left-first, left-same, left-room, left-more, left-end}
-use Rattle.listing.proofs.Lines.{opsLeft, ops-first, ops-none, ops-more}
+use Rattle.listing.proofs.TextsInTurn.{Left, left-first, left-same, left-placeable, left-more, left-end}
+use Rattle.listing.proofs.LinesInTurn.{opsLeft, ops-first, ops-none, ops-more}
 use borrow.Author.Needs.{needs}
 use Rattle.listing.proofs.put_ops.Statement.{statement}
 use Rattle.listing.proofs.put_ops.Tie as tie
@@ -36,7 +36,7 @@ put-op-requires : tie.Need-put-op-requires Inv-loop μ-loop
 put-op-requires c κs =
     let l = c .before .before .before .before in
     let s = l .before .before .before .before in
-    left-room _ _ (left-same (ops-more _ _ _ _ _ (search needs)) (l .loop .inv .1)) (s .pre .1 .1)
+    left-placeable _ _ (left-same (ops-more _ _ _ _ _ (search needs)) (l .loop .inv .1)) (s .pre .1 .1)
 
 add-i : tie.Need-add-i Inv-loop μ-loop
 add-i c = search needs

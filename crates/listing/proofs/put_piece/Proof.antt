@@ -4,8 +4,8 @@ use mathlib.Core.List.{_++_}
 use lib.ListN.{length}
 use Rattle.operators.specs.Ops.{opsIn}
 use Rattle.listing.specs.Listings.{typeLine, opsLine, opLines, prefixLine, pieceLines}
-use Rattle.listing.specs.Puts.{Within}
-use Rattle.listing.proofs.Joins.{put-none, put-same, room-same, room-first, room-rest, joins}
+use Rattle.listing.specs.Puts.{Backed}
+use Rattle.listing.proofs.TextsInTurn.{put-none, put-same, placeable-same, placeable-first, placeable-rest, joins}
 use borrow.Author.Needs.{needs}
 use Rattle.listing.proofs.put_piece.Statement.{statement}
 use Rattle.listing.proofs.put_piece.Tie as tie
@@ -30,8 +30,8 @@ put-number-line-requires c κs =
     let s = k .before .before .before .before .before in
     let a = s .args in
     let g = k .piece .given in
-    let r = room-same (ap (pieceLines (a .values .now) (a .octets .now)) (g .1)) (s .pre .1) in
-    room-first (typeLine (g .0 .0)) (prefixLine (g .0 .1 .0)) r
+    let r = placeable-same (ap (pieceLines (a .values .now) (a .octets .now)) (g .1)) (s .pre .1) in
+    placeable-first (typeLine (g .0 .0)) (prefixLine (g .0 .1 .0)) r
 
 put-prefix-requires : tie.Need-put-prefix-requires
 put-prefix-requires c κs =
@@ -39,8 +39,8 @@ put-prefix-requires c κs =
     let s = k .before .before .before .before .before in
     let a = s .args in
     let g = k .piece .given in
-    let r = room-same (ap (pieceLines (a .values .now) (a .octets .now)) (g .1)) (s .pre .1) in
-    room-rest _ (prefixLine (g .0 .1 .0)) (c .before .before .before .put-number-line .ensures) r
+    let r = placeable-same (ap (pieceLines (a .values .now) (a .octets .now)) (g .1)) (s .pre .1) in
+    placeable-rest _ (prefixLine (g .0 .1 .0)) (c .before .before .before .put-number-line .ensures) r
 
 enum-known-piece-2 : tie.Need-enum-known-piece-2
 enum-known-piece-2 c = search needs
@@ -57,8 +57,8 @@ put-number-line-requires-2 c κs =
     let s = k .before .before .before .before .before in
     let a = s .args in
     let g = k .piece2 .given in
-    let r = room-same (ap (pieceLines (a .values .now) (a .octets .now)) (g .1)) (s .pre .1) in
-    room-first (typeLine (g .0 .0)) (opsLine (g .0 .1 .1 .0)) (room-first (typeLine (g .0 .0) ++ opsLine (g .0 .1 .1 .0)) (opLines (opsIn (a .values .now) (a .octets .now) (g .0 .1 .0) (g .0 .1 .1 .0))) r)
+    let r = placeable-same (ap (pieceLines (a .values .now) (a .octets .now)) (g .1)) (s .pre .1) in
+    placeable-first (typeLine (g .0 .0)) (opsLine (g .0 .1 .1 .0)) (placeable-first (typeLine (g .0 .0) ++ opsLine (g .0 .1 .1 .0)) (opLines (opsIn (a .values .now) (a .octets .now) (g .0 .1 .0) (g .0 .1 .1 .0))) r)
 
 slice-aggregate-put-number-line-3 : tie.Need-slice-aggregate-put-number-line-3
 slice-aggregate-put-number-line-3 c = search needs
@@ -69,8 +69,8 @@ put-number-line-requires-3 c κs =
     let s = k .before .before .before .before .before in
     let a = s .args in
     let g = k .piece2 .given in
-    let r = room-same (ap (pieceLines (a .values .now) (a .octets .now)) (g .1)) (s .pre .1) in
-    room-rest _ (opsLine (g .0 .1 .1 .0)) (c .before .before .before .before .put-number-line2 .ensures) (room-first (typeLine (g .0 .0) ++ opsLine (g .0 .1 .1 .0)) (opLines (opsIn (a .values .now) (a .octets .now) (g .0 .1 .0) (g .0 .1 .1 .0))) r)
+    let r = placeable-same (ap (pieceLines (a .values .now) (a .octets .now)) (g .1)) (s .pre .1) in
+    placeable-rest _ (opsLine (g .0 .1 .1 .0)) (c .before .before .before .before .put-number-line2 .ensures) (placeable-first (typeLine (g .0 .0) ++ opsLine (g .0 .1 .1 .0)) (opLines (opsIn (a .values .now) (a .octets .now) (g .0 .1 .0) (g .0 .1 .1 .0))) r)
 
 put-ops-requires : tie.Need-put-ops-requires
 put-ops-requires c κs =
@@ -78,10 +78,10 @@ put-ops-requires c κs =
     let s = k .before .before .before .before .before in
     let a = s .args in
     let g = k .piece2 .given in
-    let r = room-same (ap (pieceLines (a .values .now) (a .octets .now)) (g .1)) (s .pre .1) in
+    let r = placeable-same (ap (pieceLines (a .values .now) (a .octets .now)) (g .1)) (s .pre .1) in
     let h = c .before .before .before in
-    let w = subst (Within (length (a .values .now)) (length (a .octets .now))) (g .1) (s .pre .0) in
-    (w .0, (w .1, room-rest _ (opLines (opsIn (a .values .now) (a .octets .now) (g .0 .1 .0) (g .0 .1 .1 .0))) (joins _ _ (h .before .before .before .before .before .put-number-line2 .ensures) (h .put-number-line3 .ensures)) r))
+    let w = subst (Backed (length (a .values .now)) (length (a .octets .now))) (g .1) (s .pre .0) in
+    (w .in-values, (w .in-octets, placeable-rest _ (opLines (opsIn (a .values .now) (a .octets .now) (g .0 .1 .0) (g .0 .1 .1 .0))) (joins _ _ (h .before .before .before .before .before .put-number-line2 .ensures) (h .put-number-line3 .ensures)) r))
 
 enum-told : tie.Need-enum-told
 enum-told c = search needs

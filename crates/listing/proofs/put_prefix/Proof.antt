@@ -1,7 +1,7 @@
 -- `listing::put_prefix` meets its contract: the IPv4 form alone has a line.
 use mathlib.Core.Path.{sym, ap}
 use Rattle.listing.specs.Listings.{prefixLine}
-use Rattle.listing.proofs.Joins.{put-none, put-same, room-same}
+use Rattle.listing.proofs.TextsInTurn.{put-none, put-same, placeable-same}
 use borrow.Author.Needs.{needs}
 use Rattle.listing.proofs.put_prefix.Statement.{statement}
 use Rattle.listing.proofs.put_prefix.Tie as tie
@@ -15,7 +15,7 @@ enum-known-prefix c = search needs
 put-ipv4-requires : tie.Need-put-ipv4-requires
 put-ipv4-requires c κs =
     let k = c .before .before in
-    room-same (ap prefixLine (k .prefix .given .1)) (k .before .before .before .pre)
+    placeable-same (ap prefixLine (k .prefix .given .1)) (k .before .before .before .pre)
 
 enum-told : tie.Need-enum-told
 enum-told c = search needs

@@ -5,7 +5,7 @@ use mathlib.Core.List.{List, [], _∷_, _++_}
 use native.Mathlib.Numerals.{add-one}
 use lib.ListN.{length, getD, drop, drop-of-length-le}
 use lib.Seq.{drop-cons}
-use Rattle.listing.proofs.Joins.{Left, left-first, left-room, left-more, left-end}
+use Rattle.listing.proofs.TextsInTurn.{Left, left-first, left-placeable, left-more, left-end}
 use borrow.Author.Needs.{needs}
 use Rattle.listing.proofs.put_text.Statement.{statement}
 use Rattle.listing.proofs.put_text.Tie as tie
@@ -33,7 +33,7 @@ put-requires : tie.Need-put-requires Inv-loop μ-loop
 put-requires c κs =
     let l = c .before .before .before in
     let s = l .before .before .before in
-    left-room _ _ (next (s .args .text .now) (search needs) (l .loop .inv .1)) (s .pre)
+    left-placeable _ _ (next (s .args .text .now) (search needs) (l .loop .inv .1)) (s .pre)
 
 add-i : tie.Need-add-i Inv-loop μ-loop
 add-i c = search needs

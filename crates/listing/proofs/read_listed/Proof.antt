@@ -1,6 +1,6 @@
--- `listing::read_listed` meets its contract: `Readings.antt` has the two ways that it goes.
+-- `listing::read_listed` meets its contract: `NeverShort.antt` has the two ways that it goes.
 use mathlib.Core.Path.{refl}
-use Rattle.listing.proofs.Readings.{over-long, as-read}
+use Rattle.listing.proofs.NeverShort.{over-long, as-read}
 use borrow.Author.Needs.{needs}
 use Rattle.listing.proofs.read_listed.Statement.{statement}
 use Rattle.listing.proofs.read_listed.Tie as tie

@@ -1,17 +1,14 @@
 -- `replay::ruletext::put_list` is safe and ends: what is left falls.
 use mathlib.Core.Path.{_≡_}
 use lib.ListN.{length}
-use Prim.Native.Nat.{_-_}
+use Prim.Native.Nat.{_-_, _≤_}
 use native.Mathlib.Omega.{arith}
 use Rattle.replay.proofs.ruletext.put_list.Statement.{statement}
 use Rattle.replay.proofs.ruletext.put_list.Tie as tie
 use Rattle.replay.proofs.ruletext.put_list.Reads as reads
 use Rattle.replay.proofs.ruletext.put_list.Lts as lts
-use Rattle.replay.proofs.ruletext.put_decimal.Reads as put-decimal-reads
 use Rattle.replay.proofs.ruletext.put_if.Reads as put-if-reads
-use Rattle.replay.proofs.ruletext.put_octet.Reads as put-octet-reads
-use Rattle.replay.proofs.ruletext.word_at.Reads as word-at-reads
-use Rattle.replay.proofs.text.put.Reads as put-reads
+use Rattle.replay.proofs.ruletext.put_operator.Reads as put-operator-reads
 use Rattle.std.proofs.num.wrapping_add_u64.Reads as wrapping-add-u64-reads
 
 abbrev Inv-loop : tie.InvT-loop
@@ -29,17 +26,8 @@ put-if-requires c κs = tt
 wrapping-add-u64-requires : tie.Need-wrapping-add-u64-requires Inv-loop μ-loop
 wrapping-add-u64-requires c κs = tt
 
-put-octet-requires : tie.Need-put-octet-requires Inv-loop μ-loop
-put-octet-requires c κs = tt
-
-put-requires : tie.Need-put-requires Inv-loop μ-loop
-put-requires c κs = tt
-
-word-at-requires : tie.Need-word-at-requires Inv-loop μ-loop
-word-at-requires c κs = tt
-
-put-decimal-requires : tie.Need-put-decimal-requires Inv-loop μ-loop
-put-decimal-requires c κs = tt
+put-operator-requires : tie.Need-put-operator-requires Inv-loop μ-loop
+put-operator-requires c κs = tt
 
 add-i : tie.Need-add-i Inv-loop μ-loop
 add-i c = omega arith
@@ -65,10 +53,7 @@ put-list-spec =
     loop-holds
     put-if-requires
     wrapping-add-u64-requires
-    put-octet-requires
-    put-requires
-    word-at-requires
-    put-decimal-requires
+    put-operator-requires
     add-i
     loop-less
     loop-again

@@ -1,25 +1,26 @@
 -- `replay::ruletext::put_rule` is safe and ends: what is left falls.
 use mathlib.Core.Path.{_≡_}
 use lib.ListN.{length}
-use Prim.Native.Nat.{_-_}
+use Prim.Native.Nat.{_-_, _≤_}
 use native.Mathlib.Omega.{arith}
 use Rattle.replay.proofs.ruletext.put_rule.Statement.{statement}
 use Rattle.replay.proofs.ruletext.put_rule.Tie as tie
 use Rattle.replay.proofs.ruletext.put_rule.Reads as reads
 use Rattle.replay.proofs.ruletext.put_rule.Lts as lts
-use Rattle.replay.proofs.ruletext.put_component.Reads as put-component-reads
 use Rattle.replay.proofs.ruletext.put_if.Reads as put-if-reads
-use Rattle.replay.proofs.ruletext.word_at.Reads as word-at-reads
+use Rattle.replay.proofs.ruletext.put_piece.Reads as put-piece-reads
 use Rattle.replay.proofs.text.put.Reads as put-reads
+use Rattle.stored.proofs.count_at.Reads as count-at-reads
+use Rattle.stored.proofs.piece_at.Reads as piece-at-reads
 
 abbrev Inv-loop : tie.InvT-loop
-Inv-loop out₀ at words values octets count end₀ group₀ out end group = length out ≡ length out₀
+Inv-loop out₀ at words values octets count end₀ i₀ out end i = length out ≡ length out₀
 
 abbrev μ-loop : tie.MeasureT-loop
-μ-loop out₀ at words values octets count end₀ group₀ out end group = 13 - group
+μ-loop out₀ at words values octets count end₀ i₀ out end i = 13 - i
 
-word-at-requires : tie.Need-word-at-requires Inv-loop μ-loop
-word-at-requires c κs = tt
+count-at-requires : tie.Need-count-at-requires Inv-loop μ-loop
+count-at-requires c κs = omega arith
 
 put-requires : tie.Need-put-requires Inv-loop μ-loop
 put-requires c κs = tt
@@ -42,11 +43,17 @@ returns-2 c = tt
 put-if-requires : tie.Need-put-if-requires Inv-loop μ-loop
 put-if-requires c κs = tt
 
-put-component-requires : tie.Need-put-component-requires Inv-loop μ-loop
-put-component-requires c κs = tt
+mul-piece-at : tie.Need-mul-piece-at Inv-loop μ-loop
+mul-piece-at c = omega arith
 
-add-group : tie.Need-add-group Inv-loop μ-loop
-add-group c = omega arith
+piece-at-requires : tie.Need-piece-at-requires Inv-loop μ-loop
+piece-at-requires c κs = omega arith
+
+put-piece-requires : tie.Need-put-piece-requires Inv-loop μ-loop
+put-piece-requires c κs = tt
+
+add-i : tie.Need-add-i Inv-loop μ-loop
+add-i c = omega arith
 
 loop-less : tie.Need-loop-less Inv-loop μ-loop
 loop-less c = omega arith
@@ -66,7 +73,7 @@ put-rule-spec =
     (tie.spec
     Inv-loop
     μ-loop
-    word-at-requires
+    count-at-requires
     put-requires
     same-length
     returns
@@ -74,8 +81,10 @@ put-rule-spec =
     same-length-2
     returns-2
     put-if-requires
-    put-component-requires
-    add-group
+    mul-piece-at
+    piece-at-requires
+    put-piece-requires
+    add-i
     loop-less
     loop-again
     same-length-3

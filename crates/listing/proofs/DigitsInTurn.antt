@@ -7,8 +7,8 @@ use native.Mathlib.Omega.{arith}
 use lib.Dec.{leb}
 use Rattle.ground.specs.Picks.{pick}
 use Rattle.listing.specs.Texts.{digit, decimalFrom, decimal}
-use Rattle.listing.specs.Puts.{Room, Put}
-use Rattle.listing.proofs.Joins.{Left, left-first, left-room, left-more, left-last}
+use Rattle.listing.specs.Puts.{Placeable, Put}
+use Rattle.listing.proofs.TextsInTurn.{Left, left-first, left-placeable, left-more, left-last}
 
 -- a power of ten divided by ten, and a power above 1
 ten-down : (k : ℕ) → 10 ^ suc k / 10 ≡ 10 ^ k
@@ -44,10 +44,10 @@ module _ (number : ℕ) {out mid : List ℕ} {at p power : ℕ} where
         → Left out at (decimal number) mid p (here number power octet ++ decimalFrom k number)
     left-split k e h = subst (Left out at (decimal number) mid p) (split number k power octet o e) h
 
-    room-by : (k : ℕ) → power ≡ 10 ^ k → 1 < power → Left out at (decimal number) mid p (decimalFrom k number) → Room at (decimal number)
-        → Room p (here number power octet)
-    room-by zero e h l r = absurd (omega (arith, pow-zero 10))
-    room-by (suc k) e h l r = left-room (here number power octet) (decimalFrom k number) (left-split k e l) r
+    placeable-by : (k : ℕ) → power ≡ 10 ^ k → 1 < power → Left out at (decimal number) mid p (decimalFrom k number) → Placeable at (decimal number)
+        → Placeable p (here number power octet)
+    placeable-by zero e h l r = absurd (omega (arith, pow-zero 10))
+    placeable-by (suc k) e h l r = left-placeable (here number power octet) (decimalFrom k number) (left-split k e l) r
 
     more-by : (k : ℕ) → power ≡ 10 ^ k → 1 < power → Left out at (decimal number) mid p (decimalFrom k number) → {next : List ℕ} {q : ℕ}
         → Put mid p (here number power octet) next q → Down number out at next q (power / 10)
@@ -59,8 +59,8 @@ module _ (number : ℕ) {out mid : List ℕ} {at p power : ℕ} where
           left = left-more (here number power octet) (decimalFrom k number) (left-split k e l) f;
         }
 
-    pub down-room : Down number out at mid p power → 1 < power → Room at (decimal number) → Room p (here number power octet)
-    down-room d h r = room-by (d .k) (d .is) h (d .left) r
+    pub down-placeable : Down number out at mid p power → 1 < power → Placeable at (decimal number) → Placeable p (here number power octet)
+    down-placeable d h r = placeable-by (d .k) (d .is) h (d .left) r
 
     pub down-more : {next : List ℕ} {q : ℕ} → Down number out at mid p power → 1 < power → Put mid p (here number power octet) next q → Down number out at next q (power / 10)
     down-more d h f = more-by (d .k) (d .is) h (d .left) f
@@ -71,8 +71,8 @@ module _ (number : ℕ) {out mid : List ℕ} {at p power : ℕ} where
     left-last-digit =
         subst (Left out at (decimal number) mid p) (last-by number (d .k) power (d .is) h ∙ ap (λ (x : ℕ). x ∷ []) (sym o)) (d .left)
 
-    pub last-room : Room at (decimal number) → Room p (octet ∷ [])
-    last-room r = record { fits = omega (arith, left-last-digit .place) }
+    pub last-placeable : Placeable at (decimal number) → Placeable p (octet ∷ [])
+    last-placeable r = record { fits = omega (arith, left-last-digit .place) }
 
     pub down-last : {next : List ℕ} {q : ℕ} → Put mid p (octet ∷ []) next q → Put out at (decimal number) next q
     down-last f = left-last left-last-digit f

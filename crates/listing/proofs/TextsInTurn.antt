@@ -7,7 +7,7 @@ use native.Mathlib.Omega.{arith}
 use lib.ListN.{length, length-append}
 use lib.Seq.{sets, length-sets}
 use Rattle.ground.proofs.Overlays.{sets-append}
-use Rattle.listing.specs.Puts.{Room, Put}
+use Rattle.listing.specs.Puts.{Placeable, Put}
 
 -- the output keeps its length
 pub kept : {out left : List ℕ} {at end : ℕ} (xs : List ℕ) → Put out at xs left end → length left ≡ length out
@@ -20,15 +20,15 @@ put-none out at = record { place = omega arith; stored = refl }
 pub put-same : {out left xs ys : List ℕ} {at end : ℕ} → xs ≡ ys → Put out at xs left end → Put out at ys left end
 put-same {out} {left} {at = at} {end = end} e p = subst (λ (zs : List ℕ). Put out at zs left end) e p
 
-pub room-same : {at : ℕ} {xs ys : List ℕ} → xs ≡ ys → Room at xs → Room at ys
-room-same {at} e r = subst (Room at) e r
+pub placeable-same : {at : ℕ} {xs ys : List ℕ} → xs ≡ ys → Placeable at xs → Placeable at ys
+placeable-same {at} e r = subst (Placeable at) e r
 
-pub room-first : {at : ℕ} (xs ys : List ℕ) → Room at (xs ++ ys) → Room at xs
-room-first xs ys h = record { fits = omega (arith, length-append xs ys) }
+pub placeable-first : {at : ℕ} (xs ys : List ℕ) → Placeable at (xs ++ ys) → Placeable at xs
+placeable-first xs ys h = record { fits = omega (arith, length-append xs ys) }
 
 module _ {out mid : List ℕ} {at p : ℕ} (xs ys : List ℕ) (first : Put out at xs mid p) where
-  pub room-rest : Room at (xs ++ ys) → Room p ys
-  room-rest h = record { fits = omega (arith, length-append xs ys, first .place) }
+  pub placeable-rest : Placeable at (xs ++ ys) → Placeable p ys
+  placeable-rest h = record { fits = omega (arith, length-append xs ys, first .place) }
 
   pub joins : {left : List ℕ} {end : ℕ} → Put mid p ys left end → Put out at (xs ++ ys) left end
   joins {left} {end} second =
@@ -53,8 +53,8 @@ pub left-same : {out whole mid xs ys : List ℕ} {at p : ℕ} → xs ≡ ys → 
 left-same {out} {whole} {mid} {at = at} {p = p} e h = subst (Left out at whole mid p) e h
 
 module _ {out : List ℕ} {at : ℕ} {whole mid : List ℕ} {p : ℕ} (xs ys : List ℕ) where
-  pub left-room : Left out at whole mid p (xs ++ ys) → Room at whole → Room p xs
-  left-room h r = record { fits = omega (arith, length-append xs ys, h .place) }
+  pub left-placeable : Left out at whole mid p (xs ++ ys) → Placeable at whole → Placeable p xs
+  left-placeable h r = record { fits = omega (arith, length-append xs ys, h .place) }
 
   pub left-more : {next : List ℕ} {q : ℕ} → Left out at whole mid p (xs ++ ys) → Put mid p xs next q → Left out at whole next q ys
   left-more {next} {q} h f =

@@ -11,7 +11,7 @@ use Rattle.ground.proofs.Cases.{by-test}
 use Rattle.choices.specs.declared.Reading.the-variants.{Ipv4}
 use Rattle.reading.specs.Readings.{ReadRule, readAt, shorter, roomed, readInto}
 use Rattle.listing.specs.Listings.{listedAt}
-use Rattle.listing.proofs.Spans.{listable}
+use Rattle.listing.proofs.RulesBacked.{rule-backed}
 
 pub over-long : (s : List ℕ) → 4097 < length s → listedAt s ≡ refuses 8 (4098 ∷ [])
 unfolding listedAt
@@ -26,7 +26,7 @@ shorter-least n v o h k = by-test (leb v o) (λ t. rw t h) (λ f. rw f k)
 
 roomy : (s : List ℕ) (w v o : ℕ) → length s ≤ 4097 → 64 ≤ w → 2047 ≤ v → 2047 ≤ o → (a : Answer ReadRule) → readAt Ipv4 s ≡ a → roomed a w v o ≡ a
 roomy s w v o l h i j (accepts r) e =
-    let f = listable s r l e .few in
+    let f = rule-backed s r l e .few in
     let k = shorter-least (length (r .operators)) v o (omega arith) (omega arith) in
     rw (le-ltb w 64 h, le-ltb (shorter v o) (length (r .operators)) k)
 roomy s w v o l h i j (declines f) e = refl
