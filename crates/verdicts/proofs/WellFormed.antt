@@ -20,8 +20,8 @@ use Rattle.measuring.specs.Bodies.{Lent, lent}
 use Rattle.measuring.specs.declared.Measured.{Measured}
 use Rattle.measuring.specs.Grounds.{pieceTaken, allTaken, counted, toldMeasured}
 use Rattle.measuring.proofs.Laws.{Standard, standard-shows, list-shows, taken-none, all-more}
-use Rattle.writing.specs.Writings.{onAccepted, bodyFrom, bodyIn, writtenIn}
-use Rattle.writing.proofs.Laws.{few-words, no-frame, shown, body-in, body-no-family, body-named, refusesRule, accepted as has-body, in-any-room as any-room}
+use Rattle.writing.specs.Writings.{onAccepted, bodyFrom, bodyIn, writtenIn, refusesRule, accepted as has-body}
+use Rattle.writing.proofs.Laws.{few-words, no-frame, shown, body-in, body-no-family, body-named, in-any-room as any-room}
 use Rattle.ranking.specs.Ranks.{Inside, AllInside, Rankable}
 use Rattle.verdicts.specs.Verdicts.{accepted, wellFormed}
 use Rattle.verdicts.proofs.RestOfWords.{family-rest, stored-rest, rule-rest}

@@ -19,9 +19,6 @@ packetOf s = packetAt (s .args .packet .now)
 ready : (s : tie.Start) (j : ℕ) → j < s .args .n → Rankable (s .args .words .now) (64 * j) (s .args .values .now) (s .args .octets .now)
 ready s j h = rankable (s .args .words .now) (s .args .values .now) (s .args .octets .now) (64 * j) (s .pre .0 j h)
 
-mul-rule-matches : tie.Need-mul-rule-matches
-mul-rule-matches c = search needs
-
 rule-matches-requires : tie.Need-rule-matches-requires
 rule-matches-requires c κs =
     let s = c .before .before .before .before in
@@ -40,25 +37,10 @@ returns-2 c =
     let s = e .before .before .before .before .before .before in
     first-met (tableOf s) (packetOf s) (s .args .n) (s .args .best) (s .args .i) _ (e .before .rule-matches .ensures) (e .if1 .left) (c .if2 .taken)
 
-mul-compare-rules : tie.Need-mul-compare-rules
-mul-compare-rules c = search needs
-
-mul-compare-rules-2 : tie.Need-mul-compare-rules-2
-mul-compare-rules-2 c = search needs
-
 compare-rules-requires : tie.Need-compare-rules-requires
 compare-rules-requires c κs =
     let s = c .before .before .before .before .before .before .before in
     (ready s (s .args .i) (s .pre .1 .1 .1), ready s (s .args .best) (c .if2 .left))
-
-enum-told : tie.Need-enum-told
-enum-told c = search needs
-
-enum-told-2 : tie.Need-enum-told-2
-enum-told-2 c = search needs
-
-enum-told-3 : tie.Need-enum-told-3
-enum-told-3 c = search needs
 
 returns-3 : tie.Need-returns-3
 returns-3 c =
@@ -88,16 +70,16 @@ pub better-spec : {M : Type 1} → statement M
 better-spec =
     tie.close
     (tie.spec
-    mul-rule-matches
+    (λ c. search needs)
     rule-matches-requires
     returns
     returns-2
-    mul-compare-rules
-    mul-compare-rules-2
+    (λ c. search needs)
+    (λ c. search needs)
     compare-rules-requires
-    enum-told
-    enum-told-2
-    enum-told-3
+    (λ c. search needs)
+    (λ c. search needs)
+    (λ c. search needs)
     returns-3
     returns-4
     returns-5)

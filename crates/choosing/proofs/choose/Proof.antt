@@ -20,19 +20,10 @@ tableOf s = table (s .args .words .now) (s .args .values .now) (s .args .octets 
 abbrev packetOf : tie.Start → Packet
 packetOf s = packetAt (s .args .packet .now)
 
-refused-requires : tie.Need-refused-requires
-refused-requires c κs = search needs
-
 returns : tie.Need-returns
 returns c =
     let s = c .before .before .before .before .before .before in
     promised (tableOf s) (packetOf s) (ap toldChosen (c .refused .ensures)) (sym (refuses-many (tableOf s) (packetOf s) (c .before .if1 .taken)))
-
-check-words-requires : tie.Need-check-words-requires
-check-words-requires c κs = search needs
-
-refused-requires-2 : tie.Need-refused-requires-2
-refused-requires-2 c κs = search needs
 
 returns-2 : tie.Need-returns-2
 returns-2 c =
@@ -44,9 +35,6 @@ returns-2 c =
 -- past the test of the packet
 in-range : (c : tie.Else2) → packetOk (packetOf (c .before .before .before .before .before .before .before)) ≡ true
 in-range c = sym (c .before .check-words .ensures) ∙ not-false _ (c .if2 .left)
-
-refused-requires-3 : tie.Need-refused-requires-3
-refused-requires-3 c κs = search needs
 
 returns-3 : tie.Need-returns-3
 returns-3 c =
@@ -65,23 +53,11 @@ ready c = record { few = c .before .before .before .if1 .left; in-range = in-ran
 family-of-requires : tie.Need-family-of-requires
 family-of-requires c κs = in-range (c .before)
 
-test-rules-requires : tie.Need-test-rules-requires
-test-rules-requires c κs = search needs
-
 -- what the first pass found
 found : (c : tie.After-test-rules) → let s = start (c .before .before) in testedBelow (tableOf s) (packetOf s .family) (rulesIn (tableOf s)) ≡ c .test-rules .result
 found c =
     let t = tableOf (start (c .before .before)) in
     sym (c .test-rules .ensures ∙ ap (λ (f : ℕ). testedBelow t f (rulesIn t)) (c .before .family-of .ensures))
-
-enum-known-mixed : tie.Need-enum-known-mixed
-enum-known-mixed c = search needs
-
-enum-told : tie.Need-enum-told
-enum-told c = search needs
-
-refused-requires-4 : tie.Need-refused-requires-4
-refused-requires-4 c κs = search needs
 
 returns-4 : tie.Need-returns-4
 returns-4 c =
@@ -89,9 +65,6 @@ returns-4 c =
     let e = k .before .before in
     let s = start e in
     promised (tableOf s) (packetOf s) (ap toldChosen (c .refused4 .ensures)) (tells-bad (tableOf s) (packetOf s) (ready e) (found k ∙ c .before .enum-told .given .1))
-
-refused-requires-5 : tie.Need-refused-requires-5
-refused-requires-5 c κs = search needs
 
 returns-5 : tie.Need-returns-5
 returns-5 c =
@@ -132,20 +105,20 @@ pub choose-spec : {M : Type 1} → statement M
 choose-spec =
     tie.close
     (tie.spec
-    refused-requires
+    (λ c κs. search needs)
     returns
-    check-words-requires
-    refused-requires-2
+    (λ c κs. search needs)
+    (λ c κs. search needs)
     returns-2
-    refused-requires-3
+    (λ c κs. search needs)
     returns-3
     family-of-requires
-    test-rules-requires
-    enum-known-mixed
-    enum-told
-    refused-requires-4
+    (λ c κs. search needs)
+    (λ c. search needs)
+    (λ c. search needs)
+    (λ c κs. search needs)
     returns-4
-    refused-requires-5
+    (λ c κs. search needs)
     returns-5
     find-best-requires
     returns-6

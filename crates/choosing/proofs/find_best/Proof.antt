@@ -22,12 +22,6 @@ better-requires c κs =
     let s = o .before .before .before .before .before in
     (s .pre .0, (s .pre .1 .0, (s .pre .1 .1, c .loop-test .taken, o .loop .inv .most)))
 
-add-i : tie.Need-add-i Inv-loop μ-loop
-add-i c = search needs
-
-loop-less : tie.Need-loop-less Inv-loop μ-loop
-loop-less c = search needs
-
 loop-again : tie.Need-loop-again Inv-loop μ-loop
 loop-again c = finds-on _ _ _ _ _ (c .before .before .loop .inv) (c .before .loop-test .taken) _ (c .better .ensures)
 
@@ -37,4 +31,11 @@ returns c = finds-end _ _ _ _ _ (c .before .loop .inv) (c .loop-test .left)
 pub find-best-spec : {M : Type 1} → statement M
 find-best-spec =
     tie.close
-    (tie.spec Inv-loop μ-loop loop-holds better-requires add-i loop-less loop-again returns)
+    (tie.spec Inv-loop
+    μ-loop
+    loop-holds
+    better-requires
+    (λ c. search needs)
+    (λ c. search needs)
+    loop-again
+    returns)

@@ -17,29 +17,8 @@ abbrev μ-loop : tie.MeasureT-loop
 loop-holds : tie.Need-loop-holds Inv-loop μ-loop
 loop-holds c = tests-start _ _ _
 
-mul-well-formed : tie.Need-mul-well-formed Inv-loop μ-loop
-mul-well-formed c = search needs
-
-well-formed-requires : tie.Need-well-formed-requires Inv-loop μ-loop
-well-formed-requires c κs = search needs
-
 returns : tie.Need-returns Inv-loop μ-loop
 returns c = tests-bad _ _ _ _ (c .before .before .loop-test .taken) _ (c .before .well-formed .ensures) (c .if1 .taken)
-
-mul-family-at : tie.Need-mul-family-at Inv-loop μ-loop
-mul-family-at c = search needs
-
-family-at-requires : tie.Need-family-at-requires Inv-loop μ-loop
-family-at-requires c κs = search needs
-
-first-failing-requires : tie.Need-first-failing-requires Inv-loop μ-loop
-first-failing-requires c κs = search needs
-
-add-i : tie.Need-add-i Inv-loop μ-loop
-add-i c = search needs
-
-loop-less : tie.Need-loop-less Inv-loop μ-loop
-loop-less c = search needs
 
 loop-again : tie.Need-loop-again Inv-loop μ-loop
 loop-again c =
@@ -60,13 +39,13 @@ test-rules-spec =
     Inv-loop
     μ-loop
     loop-holds
-    mul-well-formed
-    well-formed-requires
+    (λ c. search needs)
+    (λ c κs. search needs)
     returns
-    mul-family-at
-    family-at-requires
-    first-failing-requires
-    add-i
-    loop-less
+    (λ c. search needs)
+    (λ c κs. search needs)
+    (λ c κs. search needs)
+    (λ c. search needs)
+    (λ c. search needs)
     loop-again
     returns-2)

@@ -4,7 +4,7 @@ use Rattle.krubbadin.proofs.refused.Statement.{statement}
 use Rattle.krubbadin.proofs.refused.Tie as tie
 
 returns : tie.Need-returns
-returns c = simp (c .numbered .ensures)
+returns c = simp (c .before .numbered .ensures)
 
 pub refused-spec : {M : Type 1} → statement M
 refused-spec = tie.close (tie.spec (λ c κs. search needs)
