@@ -6,7 +6,7 @@
 //! compares; `edges`, `flows`, `packets` and `tables` make what matching, ranking and choosing are
 //! asked, `decisions` asks it and compares. `wordwise` is a chooser to be timed. A rule crosses the
 //! surface as words; `stored` knows that form, `packets` that of a packet, and `neutral` that of the
-//! crate `protocol`, by which `requests` and `lines` have the texts of stored answers. `samples` has
+//! crate `protocol`, by which `requests` has the texts of stored answers. `samples` has
 //! those that are stored. `src/bin` has the programs.
 //! Without the feature `archive` nothing of the proved code is linked, nor compared with.
 
@@ -19,7 +19,6 @@ pub mod decisions;
 pub mod edges;
 pub mod flows;
 pub mod lent;
-pub mod lines;
 pub mod neutral;
 pub mod packets;
 pub mod peers;
