@@ -42,30 +42,6 @@ compare-rules-requires c κs =
     let s = c .before .before .before .before .before .before .before in
     (ready s (s .args .i) (s .pre .1 .1 .1), ready s (s .args .best) (c .if2 .left))
 
-returns-3 : tie.Need-returns-3
-returns-3 c =
-    let k = c .before .before in
-    let d = k .before in
-    let e = d .before in
-    let s = e .before .before .before .before .before .before in
-    by-rank (tableOf s) (packetOf s) (s .args .n) (s .args .best) (s .args .i) _ (e .before .rule-matches .ensures) (e .if1 .left) (d .if2 .left) _ _ (k .compare-rules .ensures) (c .enum-told .given .1)
-
-returns-4 : tie.Need-returns-4
-returns-4 c =
-    let k = c .before .before in
-    let d = k .before in
-    let e = d .before in
-    let s = e .before .before .before .before .before .before in
-    by-rank (tableOf s) (packetOf s) (s .args .n) (s .args .best) (s .args .i) _ (e .before .rule-matches .ensures) (e .if1 .left) (d .if2 .left) _ _ (k .compare-rules .ensures) (c .enum-told2 .given .1)
-
-returns-5 : tie.Need-returns-5
-returns-5 c =
-    let k = c .before .before in
-    let d = k .before in
-    let e = d .before in
-    let s = e .before .before .before .before .before .before in
-    by-rank (tableOf s) (packetOf s) (s .args .n) (s .args .best) (s .args .i) _ (e .before .rule-matches .ensures) (e .if1 .left) (d .if2 .left) _ _ (k .compare-rules .ensures) (c .enum-told3 .given .1)
-
 pub better-spec : {M : Type 1} → statement M
 better-spec =
     tie.close
@@ -80,6 +56,6 @@ better-spec =
     (λ c. search needs)
     (λ c. search needs)
     (λ c. search needs)
-    returns-3
-    returns-4
-    returns-5)
+    (λ c. let k = c .before .before in let d = k .before in let e = d .before in let s = e .before .before .before .before .before .before in by-rank (tableOf s) (packetOf s) (s .args .n) (s .args .best) (s .args .i) _ (e .before .rule-matches .ensures) (e .if1 .left) (d .if2 .left) _ _ (k .compare-rules .ensures) (c .enum-told .given .1))
+    (λ c. let k = c .before .before in let d = k .before in let e = d .before in let s = e .before .before .before .before .before .before in by-rank (tableOf s) (packetOf s) (s .args .n) (s .args .best) (s .args .i) _ (e .before .rule-matches .ensures) (e .if1 .left) (d .if2 .left) _ _ (k .compare-rules .ensures) (c .enum-told2 .given .1))
+    (λ c. let k = c .before .before in let d = k .before in let e = d .before in let s = e .before .before .before .before .before .before in by-rank (tableOf s) (packetOf s) (s .args .n) (s .args .best) (s .args .i) _ (e .before .rule-matches .ensures) (e .if1 .left) (d .if2 .left) _ _ (k .compare-rules .ensures) (c .enum-told3 .given .1)))

@@ -92,15 +92,6 @@ returns-6 c =
     let s = start e in
     promised (tableOf s) (packetOf s) refl (tells-best (tableOf s) (packetOf s) (ready e) _ (found k ∙ m .mixed .given .1) (b .before .if4 .left) _ (best-is (tableOf s) (packetOf s) _ (b .find-best .ensures) (c .if5 .taken)))
 
-returns-7 : tie.Need-returns-7
-returns-7 c =
-    let b = c .before in
-    let m = b .before .before .before in
-    let k = m .before .before in
-    let e = k .before .before in
-    let s = start e in
-    promised (tableOf s) (packetOf s) refl (tells-best (tableOf s) (packetOf s) (ready e) _ (found k ∙ m .mixed .given .1) (b .before .if4 .left) _ (best-none (tableOf s) (packetOf s) _ (b .find-best .ensures) (c .if5 .left)))
-
 pub choose-spec : {M : Type 1} → statement M
 choose-spec =
     tie.close
@@ -122,4 +113,4 @@ choose-spec =
     returns-5
     find-best-requires
     returns-6
-    returns-7)
+    (λ c. let b = c .before in let m = b .before .before .before in let k = m .before .before in let e = k .before .before in let s = start e in promised (tableOf s) (packetOf s) refl (tells-best (tableOf s) (packetOf s) (ready e) _ (found k ∙ m .mixed .given .1) (b .before .if4 .left) _ (best-none (tableOf s) (packetOf s) _ (b .find-best .ensures) (c .if5 .left)))))

@@ -40,17 +40,6 @@ piece-at-requires c κs =
     let w = k .before .before .before .before .before .pre .0 in
     omega (arith, k .count-at .ensures, w .few, w .long)
 
-put-piece-requires : tie.Need-put-piece-requires Inv-loop μ-loop
-put-piece-requires c κs =
-    let q = c .before in
-    let l = q .before .before in
-    let k = l .before in
-    let s = k .before .before .before .before .before in
-    let a = s .args in
-    let h : l .loop .i < k .count-at .result = omega arith in
-    let m = left-same (components-more (a .values .now) (a .octets .now) (a .words .now) (k .count-at .result) (l .loop .i) h (q .piece-at .ensures)) (l .loop .inv .1) in
-    (component-backed (a .values .now) (a .octets .now) (a .words .now) (k .count-at .result) (l .loop .i) h (q .piece-at .ensures) (k .count-at .ensures) _ _ (s .pre .0 .backed), left-placeable _ _ m (s .pre .1))
-
 loop-again : tie.Need-loop-again Inv-loop μ-loop
 loop-again c =
     let f = c .before .before in
@@ -83,7 +72,7 @@ put-components-spec =
     loop-holds
     mul-piece-at
     piece-at-requires
-    put-piece-requires
+    (λ c κs. let q = c .before in let l = q .before .before in let k = l .before in let s = k .before .before .before .before .before in let a = s .args in let h : l .loop .i < k .count-at .result = omega arith in let m = left-same (components-more (a .values .now) (a .octets .now) (a .words .now) (k .count-at .result) (l .loop .i) h (q .piece-at .ensures)) (l .loop .inv .1) in (component-backed (a .values .now) (a .octets .now) (a .words .now) (k .count-at .result) (l .loop .i) h (q .piece-at .ensures) (k .count-at .ensures) _ _ (s .pre .0 .backed), left-placeable _ _ m (s .pre .1)))
     (λ c. search needs)
     (λ c. search needs)
     loop-again

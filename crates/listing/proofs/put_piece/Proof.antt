@@ -33,15 +33,6 @@ put-prefix-requires c κs =
     let r = placeable-same (ap (pieceLines (a .values .now) (a .octets .now)) (g .1)) (s .pre .1) in
     placeable-rest _ (prefixLine (g .0 .1 .0)) (c .before .before .before .put-number-line .ensures) r
 
-put-number-line-requires-2 : tie.Need-put-number-line-requires-2
-put-number-line-requires-2 c κs =
-    let k = c .before .before .before in
-    let s = k .before .before .before .before .before in
-    let a = s .args in
-    let g = k .piece2 .given in
-    let r = placeable-same (ap (pieceLines (a .values .now) (a .octets .now)) (g .1)) (s .pre .1) in
-    placeable-first (typeLine (g .0 .0)) (opsLine (g .0 .1 .1 .0)) (placeable-first (typeLine (g .0 .0) ++ opsLine (g .0 .1 .1 .0)) (opLines (opsIn (a .values .now) (a .octets .now) (g .0 .1 .0) (g .0 .1 .1 .0))) r)
-
 put-number-line-requires-3 : tie.Need-put-number-line-requires-3
 put-number-line-requires-3 c κs =
     let k = c .before .before .before .before .before .before .before .before in
@@ -97,7 +88,7 @@ put-piece-spec =
     (λ c. search needs)
     (λ c. search needs)
     (λ c. search needs)
-    put-number-line-requires-2
+    (λ c κs. let k = c .before .before .before in let s = k .before .before .before .before .before in let a = s .args in let g = k .piece2 .given in let r = placeable-same (ap (pieceLines (a .values .now) (a .octets .now)) (g .1)) (s .pre .1) in placeable-first (typeLine (g .0 .0)) (opsLine (g .0 .1 .1 .0)) (placeable-first (typeLine (g .0 .0) ++ opsLine (g .0 .1 .1 .0)) (opLines (opsIn (a .values .now) (a .octets .now) (g .0 .1 .0) (g .0 .1 .1 .0))) r))
     (λ c. search needs)
     put-number-line-requires-3
     put-ops-requires

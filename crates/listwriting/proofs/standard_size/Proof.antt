@@ -34,15 +34,6 @@ returns-3 c =
     let w = k .shared-slice-known5 .given (s .args .from + s .args .count - 1) .fits in
     size-right _ _ _ _ (omega arith) (a .before .if2 .left) _ (sym (ended-right _ _ _ _ _ e (a .add-all .result) (a .add-all .ensures) w) ∙ c .before .if3 .taken) (ended-long _ _ _ _ _ e (a .add-all .result) (a .add-all .ensures) w)
 
-returns-4 : tie.Need-returns-4
-returns-4 c =
-    let k = c .before .before .before in
-    let a = k .before .before in
-    let s = a .before .before .before .before .before .before in
-    let e : s .args .from + s .args .count - 1 + 1 ≡ s .args .from + s .args .count = omega arith in
-    let w = k .shared-slice-known5 .given (s .args .from + s .args .count - 1) .fits in
-    size-wrong _ _ _ _ (omega arith) (a .before .if2 .left) (sym (ended-right _ _ _ _ _ e (a .add-all .result) (a .add-all .ensures) w) ∙ c .if3 .left)
-
 pub standard-size-spec : {M : Type 1} → statement M
 standard-size-spec =
     tie.close
@@ -63,4 +54,4 @@ standard-size-spec =
     (λ c. search needs)
     add-t34
     returns-3
-    returns-4)
+    (λ c. let k = c .before .before .before in let a = k .before .before in let s = a .before .before .before .before .before .before in let e : s .args .from + s .args .count - 1 + 1 ≡ s .args .from + s .args .count = omega arith in let w = k .shared-slice-known5 .given (s .args .from + s .args .count - 1) .fits in size-wrong _ _ _ _ (omega arith) (a .before .if2 .left) (sym (ended-right _ _ _ _ _ e (a .add-all .result) (a .add-all .ensures) w) ∙ c .if3 .left)))

@@ -34,26 +34,6 @@ returns c =
     let f = weighs-not (a .writing) l (o .loop .left) (o .loop .previous) (g .before .piece-at .ensures) (g .weigh .ensures) (c .enum-told .given .1) in
     sym (o .loop .inv .3 ∙ walk-bad (a .writing) l (a .words .now) (a .count) (o .loop .i) (o .loop .left) (o .loop .previous) (o .loop .body) (omega arith) f)
 
-add-body : tie.Need-add-body Inv-loop μ-loop
-add-body c =
-    let k = c .before in
-    let g = k .before .before in
-    let o = g .before .before .before in
-    let a = o .before .before .before .before .args in
-    let l = lent (a .values .now) (a .octets .now) (a .first) in
-    let f = weighs (a .writing) l (o .loop .left) (o .loop .previous) (g .before .piece-at .ensures) (g .weigh .ensures) (k .w .given .1) in
-    omega (arith, f .most, f .few, o .loop .inv .2)
-
-sub-left : tie.Need-sub-left Inv-loop μ-loop
-sub-left c =
-    let k = c .before in
-    let g = k .before .before in
-    let o = g .before .before .before in
-    let a = o .before .before .before .before .args in
-    let l = lent (a .values .now) (a .octets .now) (a .first) in
-    let f = weighs (a .writing) l (o .loop .left) (o .loop .previous) (g .before .piece-at .ensures) (g .weigh .ensures) (k .w .given .1) in
-    f .few
-
 loop-again : tie.Need-loop-again Inv-loop μ-loop
 loop-again c =
     let k = c .before in
@@ -91,8 +71,8 @@ measure-body-spec =
     (λ c. search needs)
     (λ c. search needs)
     returns
-    add-body
-    sub-left
+    (λ c. let k = c .before in let g = k .before .before in let o = g .before .before .before in let a = o .before .before .before .before .args in let l = lent (a .values .now) (a .octets .now) (a .first) in let f = weighs (a .writing) l (o .loop .left) (o .loop .previous) (g .before .piece-at .ensures) (g .weigh .ensures) (k .w .given .1) in omega (arith, f .most, f .few, o .loop .inv .2))
+    (λ c. let k = c .before in let g = k .before .before in let o = g .before .before .before in let a = o .before .before .before .before .args in let l = lent (a .values .now) (a .octets .now) (a .first) in let f = weighs (a .writing) l (o .loop .left) (o .loop .previous) (g .before .piece-at .ensures) (g .weigh .ensures) (k .w .given .1) in f .few)
     (λ c. search needs)
     (λ c. search needs)
     loop-again

@@ -23,14 +23,6 @@ compare-lists-requires c κs =
     let g = s .args in
     (s .pre .0, inside-told (length (g .values2 .now)) (length (g .octets2 .now)) (g .first2) (g .other) _ (w .other .given .1) (s .pre .1))
 
-returns : tie.Need-returns
-returns c =
-    let n = c .before .before in
-    let w = n .before .before in
-    let g = w .before .before .before .before .before .before .args in
-    by-tags (g .tag) _ (listed _) (listed _) _ (sym (c .enum-told .given .1) ∙ n .compare-numbers .ensures)
-    ∙ as-told (g .values2 .now) (g .octets2 .now) (g .first2) (comparedList (g .values .now) (g .octets .now) (g .tag) (g .start) (g .count)) (g .other) _ (w .other .given .1)
-
 returns-2 : tie.Need-returns-2
 returns-2 c =
     let k = c .before in
@@ -40,14 +32,6 @@ returns-2 c =
     let g = w .before .before .before .before .before .before .args in
     c .compare-lists .ensures
     ∙ by-lists (g .tag) _ _ _ _ (k .kind-of .ensures) (sym (t .enum-told2 .given .1) ∙ n .compare-numbers .ensures)
-    ∙ as-told (g .values2 .now) (g .octets2 .now) (g .first2) (comparedList (g .values .now) (g .octets .now) (g .tag) (g .start) (g .count)) (g .other) _ (w .other .given .1)
-
-returns-3 : tie.Need-returns-3
-returns-3 c =
-    let n = c .before .before in
-    let w = n .before .before in
-    let g = w .before .before .before .before .before .before .args in
-    by-tags (g .tag) _ (listed _) (listed _) _ (sym (c .enum-told3 .given .1) ∙ n .compare-numbers .ensures)
     ∙ as-told (g .values2 .now) (g .octets2 .now) (g .first2) (comparedList (g .values .now) (g .octets .now) (g .tag) (g .start) (g .count)) (g .other) _ (w .other .given .1)
 
 returns-4 : tie.Need-returns-4
@@ -83,8 +67,8 @@ list-against-spec =
     (λ c κs. search needs)
     (λ c κs. search needs)
     (λ c. search needs)
-    returns
+    (λ c. let n = c .before .before in let w = n .before .before in let g = w .before .before .before .before .before .before .args in by-tags (g .tag) _ (listed _) (listed _) _ (sym (c .enum-told .given .1) ∙ n .compare-numbers .ensures) ∙ as-told (g .values2 .now) (g .octets2 .now) (g .first2) (comparedList (g .values .now) (g .octets .now) (g .tag) (g .start) (g .count)) (g .other) _ (w .other .given .1))
     returns-2
-    returns-3
+    (λ c. let n = c .before .before in let w = n .before .before in let g = w .before .before .before .before .before .before .args in by-tags (g .tag) _ (listed _) (listed _) _ (sym (c .enum-told3 .given .1) ∙ n .compare-numbers .ensures) ∙ as-told (g .values2 .now) (g .octets2 .now) (g .first2) (comparedList (g .values .now) (g .octets .now) (g .tag) (g .start) (g .count)) (g .other) _ (w .other .given .1))
     returns-4
     returns-5)

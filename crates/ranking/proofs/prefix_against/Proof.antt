@@ -8,15 +8,6 @@ use borrow.Author.Needs.{needs}
 use Rattle.ranking.proofs.prefix_against.Statement.{statement}
 use Rattle.ranking.proofs.prefix_against.Tie as tie
 
-returns : tie.Need-returns
-returns c =
-    let n = c .before .before in
-    let w = n .before .before in
-    let g = w .before .before .args in
-    λ values octets first.
-    by-tags (g .tag) _ (prefixed (g .prefix)) (prefixed _) _ (sym (c .enum-told .given .1) ∙ n .compare-numbers .ensures)
-    ∙ as-told values octets first (compared (g .tag) (prefixed (g .prefix))) (g .other) _ (w .other .given .1)
-
 returns-2 : tie.Need-returns-2
 returns-2 c =
     let t = c .before in
@@ -26,15 +17,6 @@ returns-2 c =
     λ values octets first.
     c .compare-prefixes .ensures
     ∙ by-tags (g .tag) _ (prefixed (g .prefix)) (prefixed _) _ (sym (t .enum-told2 .given .1) ∙ n .compare-numbers .ensures)
-    ∙ as-told values octets first (compared (g .tag) (prefixed (g .prefix))) (g .other) _ (w .other .given .1)
-
-returns-3 : tie.Need-returns-3
-returns-3 c =
-    let n = c .before .before in
-    let w = n .before .before in
-    let g = w .before .before .args in
-    λ values octets first.
-    by-tags (g .tag) _ (prefixed (g .prefix)) (prefixed _) _ (sym (c .enum-told3 .given .1) ∙ n .compare-numbers .ensures)
     ∙ as-told values octets first (compared (g .tag) (prefixed (g .prefix))) (g .other) _ (w .other .given .1)
 
 returns-4 : tie.Need-returns-4
@@ -66,8 +48,8 @@ prefix-against-spec =
     (λ c κs. search needs)
     (λ c κs. search needs)
     (λ c. search needs)
-    returns
+    (λ c. let n = c .before .before in let w = n .before .before in let g = w .before .before .args in λ values octets first. by-tags (g .tag) _ (prefixed (g .prefix)) (prefixed _) _ (sym (c .enum-told .given .1) ∙ n .compare-numbers .ensures) ∙ as-told values octets first (compared (g .tag) (prefixed (g .prefix))) (g .other) _ (w .other .given .1))
     returns-2
-    returns-3
+    (λ c. let n = c .before .before in let w = n .before .before in let g = w .before .before .args in λ values octets first. by-tags (g .tag) _ (prefixed (g .prefix)) (prefixed _) _ (sym (c .enum-told3 .given .1) ∙ n .compare-numbers .ensures) ∙ as-told values octets first (compared (g .tag) (prefixed (g .prefix))) (g .other) _ (w .other .given .1))
     returns-4
     returns-5)

@@ -36,15 +36,6 @@ returns-4 c =
     let k = e .before .before in
     prefix-seen _ _ _ _ start (k .before .before .if1 .left) (k .if2 .left) (omega (arith, e .before .last-type .ensures, e .if3 .left)) (a .before .if4 .taken) (sym (ap toldExtent (x .extent .given .1)) ∙ a .extent-at .ensures)
 
-returns-5 : tie.Need-returns-5
-returns-5 c =
-    λ start.
-    let x = c .before in
-    let a = x .before .before in
-    let e = a .before .before in
-    let k = e .before .before in
-    prefix-seen _ _ _ _ start (k .before .before .if1 .left) (k .if2 .left) (omega (arith, e .before .last-type .ensures, e .if3 .left)) (a .before .if4 .taken) (sym (ap toldExtent (x .fault .given .1)) ∙ a .extent-at .ensures)
-
 returns-6 : tie.Need-returns-6
 returns-6 c =
     λ start.
@@ -75,7 +66,7 @@ component-at-spec =
     (λ c. search needs)
     (λ c. search needs)
     returns-4
-    returns-5
+    (λ c. λ start. let x = c .before in let a = x .before .before in let e = a .before .before in let k = e .before .before in prefix-seen _ _ _ _ start (k .before .before .if1 .left) (k .if2 .left) (omega (arith, e .before .last-type .ensures, e .if3 .left)) (a .before .if4 .taken) (sym (ap toldExtent (x .fault .given .1)) ∙ a .extent-at .ensures))
     (λ c κs. search needs)
     (λ c. search needs)
     (λ c. search needs)
