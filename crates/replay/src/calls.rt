@@ -93,10 +93,12 @@ fn bitmask_record(line: &[u8], out: &mut [u8]) -> usize {
 
 // The NLRI in field 1 by the plain reading: its rule as text.
 fn parse(line: &[u8], out: &mut [u8]) -> usize {
+    let mut input = [0u8; 5000];
     let mut words = [0u64; 64];
     let mut values = [0u64; 2100];
     let mut octets = [0u8; 2100];
-    match super::ruletext::read_nlri(line, 6, &mut words, &mut values, &mut octets) {
+    let n = super::ruletext::read_octets(line, 6, &mut input);
+    match super::ruletext::read_front(&input, n, &mut words, &mut values, &mut octets) {
         ReadInto::Read {
             used: _,
             operators: _,
@@ -144,6 +146,7 @@ const PARSE: u64 = 0x7061727365;
 const KIND: u64 = 0x6B696E64;
 
 const FAMILY: u64 = 0x66616D696C79;
+
 const EQUAL_TO: u64 = 0x657175616C5F746F;
 
 const GREATER_THAN_OR_EQUAL: u64 = 0x677265617465725F;

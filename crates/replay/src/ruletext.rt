@@ -73,7 +73,7 @@ fn hex(s: &[u8], from: usize, digits: u8) -> Taken {
 }
 
 // The octets of a text of hex pairs, up to the first that stands in none; `-` for none. Answers how many.
-fn read_octets(s: &[u8], from: usize, out: &mut [u8]) -> usize {
+pub fn read_octets(s: &[u8], from: usize, out: &mut [u8]) -> usize {
     let mut at = from;
     let mut n: usize = 0;
     let mut turns = s.len();
@@ -90,21 +90,8 @@ fn read_octets(s: &[u8], from: usize, out: &mut [u8]) -> usize {
     n
 }
 
-// The NLRI at a place of a line, by the plain reading.
-pub fn read_nlri(
-    line: &[u8],
-    from: usize,
-    words: &mut [u64],
-    values: &mut [u64],
-    octets: &mut [u8],
-) -> ReadInto {
-    let mut input = [0u8; 5000];
-    let n = read_octets(line, from, &mut input);
-    read_front(&input, n, words, values, octets)
-}
-
-// What is in the first octets.
-fn read_front(
+// What is in the first octets, by the plain reading.
+pub fn read_front(
     input: &[u8],
     n: usize,
     words: &mut [u64],
