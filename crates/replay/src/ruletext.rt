@@ -220,48 +220,81 @@ fn put_length(out: &mut [u8], at: usize, length: u8) -> usize {
     put(out, end, b'/')
 }
 
-fn put_offset(out: &mut [u8], at: usize, offset: u8) -> usize {
+fn put_offset(out: &mut [u8], at: usize, wanted: bool, offset: u8) -> usize {
+    if !wanted {
+        return at;
+    }
     let sign = put(out, at, b'o');
     let start = put(out, sign, b'/');
     put_decimal(out, start, offset as u64)
 }
 
-fn put_prefix(out: &mut [u8], at: usize, prefix: NetworkPrefix) -> usize {
+// What a prefix's text names; an IPv4 address is `high`.
+pub struct Named {
+    pub digit: u8,
+    pub has_offset: bool,
+    pub offset: u8,
+    pub length: u8,
+    pub high: u64,
+    pub low: u64,
+}
+
+fn named_by(prefix: NetworkPrefix) -> Named {
     match prefix {
-        NetworkPrefix::Ipv4 { length, address } => {
-            let mut end = put(out, at, b'4');
-            end = put_length(out, end, length);
-            put_hex(out, end, address as u64, 8)
-        }
-        NetworkPrefix::Ipv6 { length, high, low } => {
-            let mut end = put(out, at, b'6');
-            end = put_length(out, end, length);
-            end = put_hex(out, end, high, 16);
-            put_hex(out, end, low, 16)
-        }
+        NetworkPrefix::Ipv4 { length, address } => Named {
+            digit: b'4',
+            has_offset: false,
+            offset: 0,
+            length: length,
+            high: address as u64,
+            low: 0,
+        },
+        NetworkPrefix::Ipv6 { length, high, low } => Named {
+            digit: b'6',
+            has_offset: false,
+            offset: 0,
+            length: length,
+            high: high,
+            low: low,
+        },
         NetworkPrefix::Ipv4Offset {
             length,
             offset,
             address,
-        } => {
-            let mut end = put(out, at, b'4');
-            end = put_offset(out, end, offset);
-            end = put_length(out, end, length);
-            put_hex(out, end, address as u64, 8)
-        }
+        } => Named {
+            digit: b'4',
+            has_offset: true,
+            offset: offset,
+            length: length,
+            high: address as u64,
+            low: 0,
+        },
         NetworkPrefix::Ipv6Offset {
             length,
             offset,
             high,
             low,
-        } => {
-            let mut end = put(out, at, b'6');
-            end = put_offset(out, end, offset);
-            end = put_length(out, end, length);
-            end = put_hex(out, end, high, 16);
-            put_hex(out, end, low, 16)
-        }
+        } => Named {
+            digit: b'6',
+            has_offset: true,
+            offset: offset,
+            length: length,
+            high: high,
+            low: low,
+        },
     }
+}
+
+fn put_prefix(out: &mut [u8], at: usize, prefix: NetworkPrefix) -> usize {
+    let p = named_by(prefix);
+    let mut end = put(out, at, p.digit);
+    end = put_offset(out, end, p.has_offset, p.offset);
+    end = put_length(out, end, p.length);
+    if p.digit == b'4' {
+        return put_hex(out, end, p.high, 8);
+    }
+    end = put_hex(out, end, p.high, 16);
+    put_hex(out, end, p.low, 16)
 }
 
 // The operator at a place of the lists.
