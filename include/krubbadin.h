@@ -52,6 +52,45 @@ enum krubbadin_status {
     KRUBBADIN_MIXED_FAMILY = 14            /* a rule of another family; first: the first such place */
 };
 
+/* A status in words. The text is a constant: it is not to be freed. */
+static inline const char *krubbadin_status_text(uint64_t status)
+{
+    switch (status) {
+    case KRUBBADIN_ACCEPTED:
+        return "accepted";
+    case KRUBBADIN_INSUFFICIENT_DATA:
+        return "octets are missing";
+    case KRUBBADIN_INVALID_COMPONENT_ORDER:
+        return "a component's type is not above the one before it";
+    case KRUBBADIN_INVALID_COMPONENT_TYPE:
+        return "there is no component of this type, or none in this family";
+    case KRUBBADIN_INVALID_PREFIX:
+        return "a prefix's length or offset is out of range";
+    case KRUBBADIN_INVALID_OPERATOR:
+        return "a reserved bit is set in an operator octet";
+    case KRUBBADIN_INVALID_VALUE_LENGTH:
+        return "a width code has no width";
+    case KRUBBADIN_VALUE_TOO_LARGE:
+        return "the rule's body has more than 4095 octets";
+    case KRUBBADIN_INPUT_TOO_LONG:
+        return "more than 4097 octets were given";
+    case KRUBBADIN_NO_ROOM:
+        return "too few places or octets were lent";
+    case KRUBBADIN_BAD_RECORD:
+        return "this is no rule, or none of its family";
+    case KRUBBADIN_BAD_FAMILY:
+        return "the family is neither 4 nor 6";
+    case KRUBBADIN_TOO_MANY_RULES:
+        return "more than 64 rules were given";
+    case KRUBBADIN_BAD_PACKET:
+        return "a field of the packet is out of range";
+    case KRUBBADIN_MIXED_FAMILY:
+        return "a rule is of another family";
+    default:
+        return "unknown status";
+    }
+}
+
 /*
  * A rule stands in 64 words, its operators in two lists beside each other: the values, and the operator octets. Unequal lists count as
  * the shorter.

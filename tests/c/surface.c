@@ -285,8 +285,26 @@ static void operators(void)
     CHECK(o.status == 10 && o.carried == 0 && o.end_of_list == 0 && o.value_length == 0 && o.value == 0);
 }
 
+/* Every status has a text of its own, and what is none has the one for that. */
+static void texts(void)
+{
+    const char *unknown = krubbadin_status_text(15);
+    uint64_t one, other;
+    CHECK(strcmp(unknown, "unknown status") == 0);
+    CHECK(strcmp(krubbadin_status_text(UINT64_MAX), unknown) == 0);
+    CHECK(strcmp(krubbadin_status_text(((uint64_t)1 << 32) + 1), unknown) == 0);
+    CHECK(strcmp(krubbadin_status_text(KRUBBADIN_ACCEPTED), "accepted") == 0);
+    CHECK(strcmp(krubbadin_status_text(13), "a field of the packet is out of range") == 0);
+    for (one = 0; one <= KRUBBADIN_MIXED_FAMILY; one++) {
+        for (other = one + 1; other <= KRUBBADIN_MIXED_FAMILY + 1; other++) {
+            CHECK(strcmp(krubbadin_status_text(one), krubbadin_status_text(other)) != 0);
+        }
+    }
+}
+
 int main(void)
 {
+    texts();
     the_port_case();
     accepted();
     refused();

@@ -8,30 +8,29 @@ use mathlib.Core.List.{List, [], _∷_, _++_, map}
 use Rattle.ground.specs.Answers.{Answer, accepts, refuses}
 use Rattle.choices.specs.declared.Reading.{Reading}
 use Rattle.choices.specs.declared.Reading.the-variants.{Plain, Ipv4, Ipv6}
-use Rattle.choices.specs.Choices.{refusedIn, familyOf}
+use Rattle.choices.specs.Choices.{refusedIn, familyOf, standardOf}
 use Rattle.operators.specs.Ops.{kindOf, Op, op, octetOf, numberOf, opsIn, listOctets}
 use Rattle.octets.specs.Lengths.{lengthAt, lengthOctets}
 use Rattle.octets.specs.Spell.{spell, spelled}
 use Rattle.rules.specs.declared.NetworkPrefix.the-variants.{Ipv4 as V4, Ipv6Offset}
-use Rattle.rules.specs.declared.Span.{Span}
-use Rattle.rules.specs.declared.FlowSpecComponent.{FlowSpecComponent}
-use Rattle.rules.specs.declared.FlowSpecComponent.the-variants.{DestinationPrefix, IpProtocol, DestinationPort}
-use Rattle.rules.specs.Components.{listOf}
-use Rattle.prefixes.specs.Prefixes.{octetsAt, boundedAt, plainAt, ipv4At, ipv6At}
-use Rattle.lists.specs.Lists.{stepAt, listFrom, listAt, opsFrom, opsAt, recordedOps}
+use Rattle.stored.specs.declared.Piece.{Piece}
+use Rattle.stored.specs.declared.Piece.the-variants.{Prefix, Operators}
+use Rattle.stored.specs.Pieces.{named, isPiece, pieceOf, pieceAt}
+use Rattle.stored.specs.Stored.{allWords, tailWords, ruleWords, piecesFrom, recordsFrom, zerosFrom, isFramed, isRule, ruleAt, storedAt}
+use Rattle.prefixes.specs.Prefixes.{extentAt, prefixAt}
+use Rattle.lists.specs.Lists.{valueAt, operatorAt, listFrom, listAt, opsFrom, opsAt, recordedOps}
 use Rattle.walk.specs.Walks.{typedAt, componentAt, walkFrom, walkAt}
-use Rattle.packets.specs.declared.Packet.{Packet}
-use Rattle.packets.specs.Packets.{packetOk}
-use Rattle.stored.specs.Stored.{allWords, tailWords, ruleWords, componentOf, isComponent, partOf, partAt, componentsFrom, partsFrom, zerosFrom, isRule, ruleAt, storedAt}
+use Rattle.packets.specs.Packets.{Packet, packetOk}
+use Rattle.packets.specs.Shown.{numbersOf}
 use Rattle.listwriting.specs.Lists.{ends, takes}
 use Rattle.measuring.specs.Bodies.{pieceOctets, bodyOctets}
-use Rattle.measuring.specs.Grounds.{allOperators, pieceTaken, allTaken, inOrder, takenAfter}
-use Rattle.satisfying.specs.Lists.{compared, masked, joined, later, groups, all, any, listMatches, dataMatch}
+use Rattle.measuring.specs.Grounds.{allOperators, pieceTaken, allTaken, inOrder, takenAfter, bodyOf}
+use Rattle.satisfying.specs.Lists.{compared, masked, joined, later, groups, all, any, listMatches}
 use Rattle.matching.specs.Cases.{packet, from-to, flagged, to}
-use Rattle.matching.specs.Rules.{componentMatches, ruleMatches}
+use Rattle.matching.specs.Rules.{someMatches, pieceMatches, ruleMatches}
 use Rattle.reading.specs.Readings.{ReadRule, statedAt, readAt, wordsOf, operatorsOf}
-use Rattle.writing.specs.Writings.{writtenFrom, writtenIn, writtenRule, answerFor}
-use Rattle.ranking.specs.Ranks.{lower, inTurn, rankBits, rankFront, rankPiece, piecesOf, rankOf}
+use Rattle.writing.specs.Writings.{bodyFrom, bodyIn, writtenFrom}
+use Rattle.ranking.specs.Ranks.{lower, inTurn, rankFront, rankCompared, rankOf}
 use Rattle.verdicts.specs.Verdicts.{wellFormed, matchVerdict}
 use Rattle.choosing.specs.Choosing.{table, Choice, place, none, allBelow, firstFailing, bestBelow, chosenIn}
 
@@ -65,18 +64,15 @@ in-one reading input a = case (read reading input) (rule-is a)
 abbrev in-all : List ℕ → (Reading → Answer ReadRule) → List Case
 in-all input a = in-one Plain input (a Plain) ++ in-one Ipv4 input (a Ipv4) ++ in-one Ipv6 input (a Ipv6)
 
--- a rule of components and operators, of which so many octets were used
-abbrev rule : List FlowSpecComponent → List Op → ℕ → Reading → Answer ReadRule
-rule cs os used reading = accepts (record { components = cs; operators = os; family = familyOf reading; used = used })
+-- a rule of pieces and operators, of which so many octets were used
+abbrev rule : List Piece → List Op → ℕ → Reading → Answer ReadRule
+rule ps os used reading = accepts (record { pieces = ps; operators = os; family = familyOf reading; used = used })
 
 abbrev refused : ℕ → List ℕ → Reading → Answer ReadRule
 refused number carried reading = refuses number carried
 
-abbrev span : ℕ → ℕ → Span
-span start count = record { start = start; count = count }
-
 abbrev protocol-6 : Reading → Answer ReadRule
-protocol-6 = rule (IpProtocol (span 0 1) ∷ []) (op 0x81 6 ∷ []) 4
+protocol-6 = rule (Operators 3 0 1 ∷ []) (op 0x81 6 ∷ []) 4
 
 abbrev port-case : List ℕ
 port-case = 0x08 ∷ 0x05 ∷ 0x03 ∷ 0x50 ∷ 0x45 ∷ 0x5A ∷ 0x91 ∷ 0x01 ∷ 0xBB ∷ []
@@ -100,13 +96,13 @@ rows =
     ++ case (match-any Ipv4 (0x00 ∷ [])) (matching-is (accepts true))
     ++ case (match-any Ipv6 (0x00 ∷ [])) (matching-is (accepts true))
     -- F0 05 01 18 C0 00 02: 192.0.2.0/24, used 7
-    ++ in-one Plain (0xF0 ∷ 0x05 ∷ 0x01 ∷ 0x18 ∷ 0xC0 ∷ 0x00 ∷ 0x02 ∷ []) (rule (DestinationPrefix (V4 24 0xC0000200) ∷ []) [] 7 Plain)
-    ++ in-one Ipv4 (0xF0 ∷ 0x05 ∷ 0x01 ∷ 0x18 ∷ 0xC0 ∷ 0x00 ∷ 0x02 ∷ []) (rule (DestinationPrefix (V4 24 0xC0000200) ∷ []) [] 7 Ipv4)
+    ++ in-one Plain (0xF0 ∷ 0x05 ∷ 0x01 ∷ 0x18 ∷ 0xC0 ∷ 0x00 ∷ 0x02 ∷ []) (rule (Prefix 1 (V4 24 0xC0000200) ∷ []) [] 7 Plain)
+    ++ in-one Ipv4 (0xF0 ∷ 0x05 ∷ 0x01 ∷ 0x18 ∷ 0xC0 ∷ 0x00 ∷ 0x02 ∷ []) (rule (Prefix 1 (V4 24 0xC0000200) ∷ []) [] 7 Ipv4)
     -- .. rewritten 05 01 18 C0 00 02
     ++ case (rewrite Plain (0xF0 ∷ 0x05 ∷ 0x01 ∷ 0x18 ∷ 0xC0 ∷ 0x00 ∷ 0x02 ∷ [])) (octets-are (accepts (0x05 ∷ 0x01 ∷ 0x18 ∷ 0xC0 ∷ 0x00 ∷ 0x02 ∷ [])))
     ++ case (rewrite Ipv4 (0xF0 ∷ 0x05 ∷ 0x01 ∷ 0x18 ∷ 0xC0 ∷ 0x00 ∷ 0x02 ∷ [])) (octets-are (accepts (0x05 ∷ 0x01 ∷ 0x18 ∷ 0xC0 ∷ 0x00 ∷ 0x02 ∷ [])))
     -- 02 03 81 06 05: plain gives protocol 6; standard 1
-    ++ in-one Plain (0x02 ∷ 0x03 ∷ 0x81 ∷ 0x06 ∷ 0x05 ∷ []) (rule (IpProtocol (span 0 1) ∷ []) (op 0x81 6 ∷ []) 3 Plain)
+    ++ in-one Plain (0x02 ∷ 0x03 ∷ 0x81 ∷ 0x06 ∷ 0x05 ∷ []) (rule (Operators 3 0 1 ∷ []) (op 0x81 6 ∷ []) 3 Plain)
     ++ in-one Ipv4 (0x02 ∷ 0x03 ∷ 0x81 ∷ 0x06 ∷ 0x05 ∷ []) (refuses 1 [])
     ++ in-one Ipv6 (0x02 ∷ 0x03 ∷ 0x81 ∷ 0x06 ∷ 0x05 ∷ []) (refuses 1 [])
     -- 03 03 89 06: plain 5 (0x89); standard as 03 03 81 06. 02 03 89: 1 in both
@@ -120,15 +116,15 @@ rows =
     ++ in-all (0x01 ∷ 0x0E ∷ []) (refused 3 (14 ∷ []))
     ++ in-all (0x06 ∷ 0x03 ∷ 0x81 ∷ 0x06 ∷ 0x03 ∷ 0x81 ∷ 0x11 ∷ []) (refused 2 (3 ∷ 3 ∷ []))
     -- 03 01 04 FF: plain 255.0.0.0/4, standard IPv4 240.0.0.0/4
-    ++ in-one Plain (0x03 ∷ 0x01 ∷ 0x04 ∷ 0xFF ∷ []) (rule (DestinationPrefix (V4 4 0xFF000000) ∷ []) [] 4 Plain)
-    ++ in-one Ipv4 (0x03 ∷ 0x01 ∷ 0x04 ∷ 0xFF ∷ []) (rule (DestinationPrefix (V4 4 0xF0000000) ∷ []) [] 4 Ipv4)
+    ++ in-one Plain (0x03 ∷ 0x01 ∷ 0x04 ∷ 0xFF ∷ []) (rule (Prefix 1 (V4 4 0xFF000000) ∷ []) [] 4 Plain)
+    ++ in-one Ipv4 (0x03 ∷ 0x01 ∷ 0x04 ∷ 0xFF ∷ []) (rule (Prefix 1 (V4 4 0xF0000000) ∷ []) [] 4 Ipv4)
     -- IPv6 04 01 41 3F C0: offset 63, length 65, bits 63 and 64 set. 03 01 40 40: 4. 03 01 00 00: every address
-    ++ in-one Ipv6 (0x04 ∷ 0x01 ∷ 0x41 ∷ 0x3F ∷ 0xC0 ∷ []) (rule (DestinationPrefix (Ipv6Offset 65 63 1 (2 ^ 63)) ∷ []) [] 5 Ipv6)
+    ++ in-one Ipv6 (0x04 ∷ 0x01 ∷ 0x41 ∷ 0x3F ∷ 0xC0 ∷ []) (rule (Prefix 1 (Ipv6Offset 65 63 1 (2 ^ 63)) ∷ []) [] 5 Ipv6)
     ++ in-one Ipv6 (0x03 ∷ 0x01 ∷ 0x40 ∷ 0x40 ∷ []) (refuses 4 [])
-    ++ in-one Ipv6 (0x03 ∷ 0x01 ∷ 0x00 ∷ 0x00 ∷ []) (rule (DestinationPrefix (Ipv6Offset 0 0 0 0) ∷ []) [] 4 Ipv6)
+    ++ in-one Ipv6 (0x03 ∷ 0x01 ∷ 0x00 ∷ 0x00 ∷ []) (rule (Prefix 1 (Ipv6Offset 0 0 0 0) ∷ []) [] 4 Ipv6)
     -- 08 05 03 50 45 5A 91 01 BB: destination ports 80, 90 and 443 match, 79 and 91 don't
     ++ in-one Ipv4 port-case
-    (rule (DestinationPort (span 0 3) ∷ []) (op 0x03 80 ∷ op 0x45 90 ∷ op 0x91 443 ∷ []) 9 Ipv4)
+    (rule (Operators 5 0 3 ∷ []) (op 0x03 80 ∷ op 0x45 90 ∷ op 0x91 443 ∷ []) 9 Ipv4)
     ++ case (match Ipv4 port-case (to-port 79)) (matching-is (accepts false))
     ++ case (match Ipv4 port-case (to-port 80)) (matching-is (accepts true))
     ++ case (match Ipv4 port-case (to-port 90)) (matching-is (accepts true))
@@ -173,5 +169,5 @@ abbrev said : Case → Said
 said c = c .says
 
 pub cases-hold : (anyone : Packet) → map (asked anyone) rows ≡ map said rows
-unfolding rows readAt statedAt walkAt walkFrom componentAt typedAt lengthAt octetsAt boundedAt plainAt ipv4At ipv6At listAt listFrom stepAt opsAt opsFrom recordedOps kindOf refusedIn listOf spell writtenFrom writtenIn writtenRule answerFor lengthOctets spelled opsIn listOctets pieceOctets bodyOctets allOperators pieceTaken allTaken inOrder takenAfter ends takes allWords tailWords ruleWords componentOf isComponent partOf partAt componentsFrom partsFrom zerosFrom isRule ruleAt wellFormed matchVerdict packetOk componentMatches ruleMatches compared masked joined later groups all any listMatches dataMatch packet from-to flagged to stored lower inTurn rankBits rankFront rankPiece piecesOf rankOf allBelow firstFailing bestBelow chosenIn
+unfolding rows readAt statedAt walkAt walkFrom componentAt typedAt lengthAt extentAt prefixAt listAt listFrom operatorAt valueAt opsAt opsFrom recordedOps kindOf refusedIn spell writtenFrom bodyFrom bodyIn bodyOf standardOf lengthOctets spelled opsIn listOctets pieceOctets bodyOctets allOperators pieceTaken allTaken inOrder takenAfter ends takes allWords tailWords ruleWords named isPiece pieceOf pieceAt piecesFrom recordsFrom zerosFrom isFramed isRule ruleAt wellFormed matchVerdict packetOk numbersOf someMatches pieceMatches ruleMatches compared masked joined later groups all any listMatches packet from-to flagged to stored lower inTurn rankFront rankCompared rankOf allBelow firstFailing bestBelow chosenIn
 cases-hold anyone = refl

@@ -1,19 +1,18 @@
 -- The best so far over any matching and any order: of those below a number that match, one that no other precedes, and the first stored of
 -- equals. By induction over the number. And there is but one such.
-use Prim.Native.Nat.{ℕ, zero, suc, _≤_, _<_}
+use Prim.Native.Nat.{ℕ, suc, _≤_, _<_}
 use mathlib.Core.Path.{_≡_, refl, sym, ap, _∙_, subst}
-use mathlib.Core.Bool.{Bool, true, false, true≢false, false≢true}
+use mathlib.Core.Bool.{Bool, true, false, true≢false}
 use mathlib.Core.Logic.{⊎-elim}
 use native.Mathlib.Omega.{arith}
 use native.Mathlib.Nat.{le-antisymm}
 use Rattle.ground.specs.Picks.{pick}
 use Rattle.ground.proofs.Cases.{by-test, lt-or-le}
-use Rattle.packets.specs.declared.Packet.{Packet}
 use Rattle.ranking.specs.declared.Order.{Order}
 use Rattle.ranking.specs.declared.Order.the-variants.{Precedes, Equal, Follows}
 use Rattle.ranking.specs.Ranks.{isBefore}
-use Rattle.ranking.proofs.Orders.{Ordered, flip}
-use Rattle.ranking.proofs.Laws.{One, first, neither, second, exactly-one, over}
+use Rattle.ranking.proofs.Orders.{Ordered, equals-itself}
+use Rattle.ranking.proofs.Laws.{One, first, neither, second, exactly-one, over, preceded, before-is}
 use Rattle.choosing.specs.Choosing.{Choice, place, none}
 
 module _ (m : ℕ → Bool) (by : ℕ → ℕ → Order) where
@@ -35,26 +34,12 @@ module _ (m : ℕ → Bool) (by : ℕ → ℕ → Order) where
   never : {A : Type 0} {b : Bool} → b ≡ true → b ≡ false → A
   never p q = absurd (true≢false (sym p ∙ q))
 
-  abbrev code : Order → ℕ
-  code Precedes = 0
-  code Equal = 0
-  code Follows = 1
-
-  before : (o : Order) → isBefore o ≡ true → o ≡ Precedes
-  before Precedes e = refl
-  before Equal e = absurd (false≢true e)
-  before Follows e = absurd (false≢true e)
-
   apart : Equal ≡ Follows → ⊥
-  apart e = let z : _≡_ {A = ℕ} 0 1 = ap (λ (x : Order). code x) e in omega arith
+  apart e = let z : _≡_ {A = ℕ} 0 1 = cc in omega arith
 
   module _ (o : Ordered by) where
-    -- what precedes is not preceded
-    one-way : (i j : ℕ) → by i j ≡ Precedes → by j i ≡ Follows
-    one-way i j e = o .flips i j ∙ ap flip e
-
     self : (i : ℕ) → by i i ≡ Precedes → ⊥
-    self i e = true≢false (sym (ap isBefore e) ∙ ap isBefore (one-way i i e))
+    self i e = true≢false (sym (ap isBefore e) ∙ ap isBefore (equals-itself by o i))
 
     -- below a number and the number itself
     below-suc : (P : ℕ → Type 0) (n : ℕ) → ((j : ℕ) → j < n → P j) → P n → (j : ℕ) → j < suc n → P j
@@ -84,8 +69,8 @@ module _ (m : ℕ → Bool) (by : ℕ → ℕ → Order) where
         let all : (j : ℕ) → j < n → m j ≡ true → by n j ≡ Precedes = λ j l q. over by o n j b e (a .unpreceded j l q) in record {
           stored = omega arith;
           matches = t;
-          unpreceded = below-suc (λ j. m j ≡ true → by j n ≡ Precedes → ⊥) n (λ j l q r. true≢false (sym (ap isBefore r) ∙ ap isBefore (one-way n j (all j l q)))) (λ q. self n);
-          first = below-suc (λ j. m j ≡ true → by j n ≡ Equal → n ≤ j) n (λ j l q r. absurd (apart (sym r ∙ one-way n j (all j l q)))) (λ q r. omega arith);
+          unpreceded = below-suc (λ j. m j ≡ true → by j n ≡ Precedes → ⊥) n (λ j l q r. true≢false (sym (ap isBefore r) ∙ ap isBefore (preceded by o n j (all j l q)))) (λ q. self n);
+          first = below-suc (λ j. m j ≡ true → by j n ≡ Equal → n ≤ j) n (λ j l q r. absurd (apart (sym r ∙ preceded by o n j (all j l q)))) (λ q r. omega arith);
         }
 
     -- it does not
@@ -101,7 +86,7 @@ module _ (m : ℕ → Bool) (by : ℕ → ℕ → Order) where
     taken-in n none t a = alone n t a
     taken-in n (place b) t a =
         by-test (isBefore (by n b))
-        (λ e. rw e (takes n b t a (before (by n b) e)))
+        (λ e. rw e (takes n b t a (before-is (by n b) e)))
         (λ e. rw e (keeps n b a (λ q. true≢false (sym (ap isBefore q) ∙ e))))
 
     -- there is but one answer

@@ -7,7 +7,7 @@
 -- - of matching rules that rank equal to it, none was stored before it;
 -- - "no rule" is said only where none matches;
 --
--- and there is no other answer of which this holds (`no-other`), so that "no rule" is said exactly where none matches. In every other case it
+-- there is no other answer of which this holds (`no-other`), and "no rule" is said exactly where none matches (`none-exactly`). In every other case it
 -- refuses, by the first of these that holds: more than 64 rules (12, with their number), a packet out of range (13), a rule that is not
 -- well-formed or words that make no whole rule (10), a rule of another family than the packet's (14, with the first such place): `refuses-..`.
 -- `chosenIn` is what the contract of `choosing::choose` cites, and `Decides` is in that contract too.
@@ -15,24 +15,24 @@ use Prim.Native.Nat.{ℕ, zero, suc, _≤_, _<_}
 use mathlib.Core.Path.{_≡_, refl, sym, ap, _∙_, subst}
 use mathlib.Core.Bool.{Bool, true, false, _&&_, true≢false}
 use mathlib.Core.Logic.{⊎-elim}
-use mathlib.Core.List.{List, [], _∷_}
+use mathlib.Core.List.{[], _∷_}
 use native.Mathlib.Omega.{arith}
 use borrow.Author.Tests.{lt-ltb, le-ltb, ltb-false}
 use lib.Dec.{ltb}
 use Rattle.ground.specs.Picks.{pick}
 use Rattle.ground.specs.Answers.{Answer, accepts, refuses, declines}
+use Rattle.ground.proofs.Answers.{never}
 use Rattle.ground.proofs.Cases.{by-test, lt-or-le, both}
-use Rattle.packets.specs.declared.Packet.{Packet}
-use Rattle.packets.specs.Packets.{packetOk}
+use Rattle.packets.specs.Packets.{Packet, packetOk}
 use Rattle.ranking.proofs.Orders.{Ordered, by-key}
 use Rattle.ranking.proofs.Laws.{Ruled, ranked, rules-ordered}
-use Rattle.choosing.specs.Choosing.{Table, rulesIn, wholeRules, ruleAt, formedAt, familyIs, matchesAt, rankAt, Choice, place, none, Decides, Decided, allBelow, orElse, firstFailing, better, bestBelow, unmixed, chosenIn}
-use Rattle.choosing.proofs.Steps.{all-below, all-not}
+use Rattle.choosing.specs.Choosing.{Table, rulesIn, wholeRules, heldAt, formedAt, familyIs, matchesAt, rankAt, Choice, place, none, Decides, Decided, allBelow, orElse, firstFailing, better, bestBelow, unmixed, chosenIn}
+use Rattle.choosing.proofs.Passes.{all-below, all-not}
 use Rattle.choosing.proofs.Best.{Answers, betterThan, passed-over, taken-in, only-one}
 
 -- the rules of a table are in an order
 abbrev held : Table → ℕ → Ruled
-held t i = record { values = t .values; octets = t .octets; rule = ruleAt t i }
+held t i = record { values = t .values; octets = t .octets; rule = heldAt t i }
 
 ordered : (t : Table) → Ordered (rankAt t)
 ordered t = by-key (rankAt t) ranked (held t) rules-ordered (λ x y. refl)
@@ -111,13 +111,6 @@ accepts-where t p h =
     rw (le-ltb 64 (rulesIn t) (h .few), h .in-range, h .whole, all-true (formedAt t) (rulesIn t) (h .formed), none-fails (familyIs t (p .family)) (rulesIn t) (firstFailing (familyIs t (p .family)) (rulesIn t)) (firsts (familyIs t (p .family)) (rulesIn t)) (h .of-family)) refl
 
 -- and nowhere else; what it then answers decides
-abbrev code : Answer Choice → ℕ
-code (accepts c) = 1
-code (declines f) = 0
-
-no : {A : Type 0} {n : ℕ} {ns : List ℕ} {c : Choice} → _≡_ {A = Answer Choice} (refuses n ns) (accepts c) → A
-no e = let z : _≡_ {A = ℕ} 0 1 = ap (λ (a : Answer Choice). code a) e in absurd (omega arith)
-
 is : {b c : Choice} → accepts b ≡ accepts c → b ≡ c
 is e = cc
 
@@ -127,7 +120,7 @@ pub record Stands (t : Table) (p : Packet) (c : Choice) : Type 0 where
 
 by-family : (t : Table) (p : Packet) (c d : Choice) → Firsts (familyIs t (p .family)) (rulesIn t) d → unmixed d (accepts (bestBelow t p (rulesIn t))) ≡ accepts c
     → rulesIn t ≤ 64 → packetOk p ≡ true → (wholeRules t && allBelow (formedAt t) (rulesIn t)) ≡ true → Stands t p c
-by-family t p c (place i) a e few ok whole = no e
+by-family t p c (place i) a e few ok whole = never e
 by-family t p c none a e few ok whole =
     let w = both (wholeRules t) (allBelow (formedAt t) (rulesIn t)) whole in
     record {
@@ -139,15 +132,22 @@ pub accepts-exactly : (t : Table) (p : Packet) (c : Choice) → chosenIn t p ≡
 unfolding chosenIn
 accepts-exactly t p c e =
     by-test (ltb 64 (rulesIn t))
-    (λ x. no (rw x at e))
+    (λ x. never (rw x at e))
     (λ x. by-test (packetOk p)
     (λ y. by-test (wholeRules t && allBelow (formedAt t) (rulesIn t))
     (λ z. by-family t p c (firstFailing (familyIs t (p .family)) (rulesIn t)) (firsts (familyIs t (p .family)) (rulesIn t)) (rw (x, y, z) at e) (ltb-false 64 (rulesIn t) x) y z)
-    (λ z. no (rw (x, y, z) at e)))
-    (λ y. no (rw (x, y) at e)))
+    (λ z. never (rw (x, y, z) at e)))
+    (λ y. never (rw (x, y) at e)))
 
 pub decides : (t : Table) (p : Packet) (c : Choice) → chosenIn t p ≡ accepts c → Decides t p c
 decides t p c e = accepts-exactly t p c e .decides
+
+-- "'no rule' is said exactly when none matches"
+pub none-exactly : (t : Table) (p : Packet) → Fits t p
+    → (chosenIn t p ≡ accepts none → (j : ℕ) → j < rulesIn t → matchesAt t p j ≡ false)
+    × (((j : ℕ) → j < rulesIn t → matchesAt t p j ≡ false) → chosenIn t p ≡ accepts none)
+none-exactly t p h =
+    (λ e. decides t p none e, λ n. accepts-where t p h ∙ ap accepts (no-other t p (bestBelow t p (rulesIn t)) none (best-decides t p) n))
 
 decided′ : (t : Table) (p : Packet) (a : Answer Choice) → chosenIn t p ≡ a → Decided t p a
 decided′ t p (accepts c) e = decides t p c e

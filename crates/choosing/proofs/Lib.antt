@@ -1,5 +1,5 @@
 pub mod Best
-pub mod Steps
+pub mod Passes
 pub mod Demand3
-pub mod Tells
+pub mod ToldAnswers
 pub mod Once

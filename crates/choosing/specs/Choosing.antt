@@ -10,8 +10,7 @@ use Rattle.ground.specs.Answers.{Answer, accepts, refuses, declines}
 use Rattle.ground.specs.Picks.{pick}
 use Rattle.refusals.specs.Refusals.{refusal}
 use Rattle.stored.specs.Stored.{StoredRule, storedAt}
-use Rattle.packets.specs.declared.Packet.{Packet}
-use Rattle.packets.specs.Packets.{packetOk}
+use Rattle.packets.specs.Packets.{Packet, packetOk}
 use Rattle.matching.specs.Rules.{ruleMatches}
 use Rattle.ranking.specs.declared.Order.{Order}
 use Rattle.ranking.specs.declared.Order.the-variants.{Precedes, Equal}
@@ -37,21 +36,21 @@ rulesIn t = length (t .words) / 64
 abbrev pub wholeRules : Table → Bool
 wholeRules t = eqb (length (t .words) % 64) 0
 
-abbrev pub ruleAt : Table → ℕ → StoredRule
-ruleAt t i = storedAt (t .words) (64 * i)
+abbrev pub heldAt : Table → ℕ → StoredRule
+heldAt t i = storedAt (t .words) (64 * i)
 
 abbrev pub formedAt : Table → ℕ → Bool
 formedAt t i = wellFormed (t .words) (t .values) (t .octets) (64 * i)
 
 abbrev pub familyIs : Table → ℕ → ℕ → Bool
-familyIs t family i = eqb (ruleAt t i .family) family
+familyIs t family i = eqb (heldAt t i .head .family) family
 
 abbrev pub matchesAt : Table → Packet → ℕ → Bool
-matchesAt t p i = ruleMatches (t .values) (t .octets) p (ruleAt t i)
+matchesAt t p i = ruleMatches (t .values) (t .octets) p (heldAt t i)
 
 -- what the rule at one place is to the rule at another
 abbrev pub rankAt : Table → ℕ → ℕ → Order
-rankAt t i j = rankOf (t .values) (t .octets) (ruleAt t i) (t .values) (t .octets) (ruleAt t j)
+rankAt t i j = rankOf (t .values) (t .octets) (heldAt t i) (t .values) (t .octets) (heldAt t j)
 
 -- ---- demand 3: "the rule we name matches, no other matching rule precedes it by the RFCs' order, of equals the first stored is named, and
 -- 'no rule' is said exactly when none matches"

@@ -5,7 +5,7 @@ use mathlib.Core.Path.{_≡_}
 use mathlib.Core.Bool.{Bool, true}
 use lib.Dec.{ltb, leb}
 use Rattle.ground.specs.Picks.{pick}
-use Rattle.packets.specs.declared.Packet.{Packet}
+use Rattle.packets.specs.Packets.{Packet}
 use Rattle.ranking.specs.Ranks.{isBefore}
 use Rattle.choosing.specs.declared.Tested.{Tested}
 use Rattle.choosing.specs.declared.Tested.the-variants.{Formed, BadRecord}
@@ -20,8 +20,8 @@ abbrev pub AllFormed : Table → ℕ → Type 0
 AllFormed t n = (i : ℕ) → i < n → formedAt t i ≡ true
 
 -- a place that was found stays; else this one, where it fails
-abbrev pub firstOf : ℕ → ℕ → ℕ → Bool → ℕ
-firstOf found n i same = pick (ltb found n) found (pick same n i)
+abbrev pub foundOr : ℕ → ℕ → ℕ → Bool → ℕ
+foundOr found n i same = pick (ltb found n) found (pick same n i)
 
 unfoldable pub testedBelow : Table → ℕ → ℕ → Tested
 testedBelow t family n = pick (allBelow (formedAt t) n) (Formed (placeOr n (firstFailing (familyIs t family) n))) BadRecord

@@ -6,13 +6,10 @@ use lib.ListN.{getD}
 use Rattle.ground.specs.Answers.{Answer, accepts, declines}
 use lib.Dec.{eqb}
 use Rattle.ground.specs.Picks.{pick}
-use Rattle.refusals.specs.Refusals.{refusal}
 use Rattle.choices.specs.declared.Reading.{Reading}
 use Rattle.choices.specs.declared.Reading.the-variants.{Plain}
 use Rattle.reading.specs.Readings.{Taken}
 use Rattle.choices.specs.Choices.{standardOf}
-use Rattle.krubbadin.specs.declared.Which.{Which}
-use Rattle.krubbadin.specs.declared.Which.the-variants.{Is, Refused}
 use Rattle.writing.specs.Writings.{writtenFrom}
 use Rattle.krubbadin.specs.declared.KrubbadinAnswer.{KrubbadinAnswer}
 
@@ -27,10 +24,6 @@ readAnswer (declines f) = refusedWith (f .number) (f .carried)
 -- what a call asks for: 0 is the plain reading, any other number the standard one in the family that is given, 4 or 6, else BadFamily
 unfoldable pub whichOf : ℕ → ℕ → Answer Reading
 whichOf standard family = pick (eqb standard 0) (accepts Plain) (standardOf family)
-
-abbrev pub toldWhich : Which → Answer Reading
-toldWhich (Is reading) = accepts reading
-toldWhich (Refused f) = refusal f
 
 -- a writing: the octets written
 abbrev pub writtenAnswer : Answer ℕ → KrubbadinAnswer

@@ -46,7 +46,7 @@ pub extern "C" fn krubbadin_match(
 ) -> KrubbadinAnswer
     ensures { λ r. ⌜ r ≡ matchAnswer (matchVerdict (now (words .entry)) (now (values .entry)) (now (octets .entry)) (packetAt (now (packet .entry)))) ⌝ }
 {
-    match_answer(verdicts::matches(words, values, octets, packets::packet_at(packet)))
+    match_answer(verdicts::matches(words, values, octets, packet))
 }
 
 fn order_number(order: Order) -> u64
@@ -104,5 +104,5 @@ pub extern "C" fn krubbadin_choose(
 ) -> KrubbadinAnswer
     ensures { λ r. ⌜ r ≡ choiceAnswer (chosenIn (table (now (words .entry)) (now (values .entry)) (now (octets .entry))) (packetAt (now (packet .entry)))) ⌝ }
 {
-    choice_answer(choosing::choose(words, values, octets, packets::packet_at(packet)))
+    choice_answer(choosing::choose(words, values, octets, packet))
 }

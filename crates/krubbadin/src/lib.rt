@@ -5,14 +5,16 @@ ghost use mathlib.Core.List.{map};
 ghost use lib.ListN.{length};
 ghost use lib.Seq.{sets};
 ghost use Rattle.operators.specs.Ops.{octetOf, numberOf};
+ghost use Rattle.choices.specs.Choices.{toldStandard};
 ghost use Rattle.refusals.specs.Refusals.{numberOf as errorNumber, carriedOf};
 ghost use Rattle.reading.specs.Readings.{toldInto, byReading, takenOf, wordsOf, operatorsOf};
-ghost use Rattle.writing.specs.Writings.{toldWritten, counted, octetsIn};
-ghost use Rattle.krubbadin.specs.Surface.{refusedWith, readAnswer, toldWhich, whichOf, writtenAnswer, byWriting};
+ghost use Rattle.measuring.specs.Grounds.{counted};
+ghost use Rattle.writing.specs.Writings.{toldWritten, octetsIn};
+ghost use Rattle.krubbadin.specs.Surface.{refusedWith, readAnswer, whichOf, writtenAnswer, byWriting};
 use choices::Reading;
+use choices::Standard;
 use reading::ReadInto;
 use refusals::Fault;
-use refusals::FlowSpecError;
 use writing::Written;
 
 mod deciding;
@@ -30,10 +32,11 @@ fn refused(fault: Fault) -> KrubbadinAnswer
     ensures { λ r. ⌜ r ≡ refusedWith (errorNumber (fault .error)) (carriedOf (fault .error)) ⌝ }
 {
     let error = fault.error;
+    let n = refusals::numbered(error);
     KrubbadinAnswer {
-        status: refusals::number(error) as u64,
-        first: refusals::first_carried(error),
-        second: refusals::second_carried(error),
+        status: n.number as u64,
+        first: n.first,
+        second: n.second,
     }
 }
 
@@ -51,26 +54,13 @@ fn read_answer(r: ReadInto) -> KrubbadinAnswer
 }
 
 // The reading, or the writing, that a call asks for.
-pub enum Which {
-    Is(Reading),
-    Refused(Fault),
-}
-
-fn named_by(standard: u8, family: u8) -> Which
-    ensures { λ r. ⌜ toldWhich r ≡ whichOf standard family ⌝ }
+fn named_by(standard: u8, family: u8) -> Standard
+    ensures { λ r. ⌜ toldStandard r ≡ whichOf standard family ⌝ }
 {
     if standard == 0 {
-        return Which::Is(Reading::Plain);
+        return Standard::Is(Reading::Plain);
     }
-    if family == 4 {
-        return Which::Is(Reading::Ipv4);
-    }
-    if family == 6 {
-        return Which::Is(Reading::Ipv6);
-    }
-    Which::Refused(Fault {
-        error: FlowSpecError::BadFamily(family),
-    })
+    choices::reading_of(family)
 }
 
 // Reads an NLRI: its rule to the first 64 words, its operators to the two lists. With `standard` 0 it is the
@@ -91,14 +81,14 @@ pub extern "C" fn krubbadin_read(
     ensures octets { λ r. ⌜ now (octets .exit) ≡ sets (now (octets .entry)) 0 (map octetOf (operatorsOf (byReading (whichOf standard family) (now (input .entry)) (length (now (words .entry))) (length (now (values .entry))) (length (now (octets .entry)))))) ⌝ }
 {
     match named_by(standard, family) {
-        Which::Is(reading) => read_answer(reading::read_into(
+        Standard::Is(reading) => read_answer(reading::read_into(
             reading,
             input,
             words,
             values,
             octets,
         )),
-        Which::Refused(fault) => refused(fault),
+        Standard::Refused(fault) => refused(fault),
     }
 }
 
@@ -130,13 +120,13 @@ pub extern "C" fn krubbadin_write(
     ensures out { λ r. ⌜ now (out .exit) ≡ sets (now (out .entry)) 0 (octetsIn (byWriting (whichOf standard family) (now (words .entry)) (now (values .entry)) (now (octets .entry)) (length (now (out .entry))))) ⌝ }
 {
     match named_by(standard, family) {
-        Which::Is(writing) => write_answer(writing::write_from(
+        Standard::Is(writing) => write_answer(writing::write_from(
             writing,
             words,
             values,
             octets,
             out,
         )),
-        Which::Refused(fault) => refused(fault),
+        Standard::Refused(fault) => refused(fault),
     }
 }

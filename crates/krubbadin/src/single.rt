@@ -37,9 +37,10 @@ fn no_operator(fault: Fault) -> KrubbadinOperator
     ensures { λ r. ⌜ r ≡ noOperator (numberOf (fault .error)) (carriedOf (fault .error)) ⌝ }
 {
     let error = fault.error;
+    let n = refusals::numbered(error);
     KrubbadinOperator {
-        status: refusals::number(error) as u64,
-        carried: refusals::first_carried(error),
+        status: n.number as u64,
+        carried: n.first,
         end_of_list: 0,
         and_with_next: 0,
         value_length: 0,

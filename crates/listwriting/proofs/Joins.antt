@@ -12,12 +12,12 @@ use lib.Bits.{bitOr, bitAnd, or-add-and, and-le-l, and-le-r, or-lt, and-high, an
 use lib.Dec.{eqb, leb, ltb}
 use lib.ListN.{getD}
 use lib.Pow.{pow-pos}
-use Rattle.ground.proofs.Cases.{by-test, both, eqb-iff, lt-or-le}
+use Rattle.ground.proofs.Cases.{by-test, both, lt-or-le}
 use Rattle.octets.specs.Widths.{codeIn, widths, widthOf}
 use Rattle.octets.proofs.Widths.{width-range}
 use Rattle.listwriting.specs.declared.Sum.{Sum}
-use Rattle.listwriting.specs.Lists.{sizeIn, fitsIn}
-use Rattle.listwriting.specs.Runs.{Alike, Joined, sum, nothing, sound, rest, Added, Adds}
+use Rattle.listwriting.specs.Lists.{sizeIn}
+use Rattle.listwriting.specs.Runs.{Alike, Joined, sum, nothing, sound, rest, Adds}
 use Rattle.listwriting.proofs.Ends.{fitsAt, rest-last, rest-more, right-each}
 use Rattle.listwriting.proofs.Sizes.{size-more, size-none}
 

@@ -1,5 +1,5 @@
 -- What callers may use of `takes` and `ends`: each way that the tests of a list go, and what a list that is taken shows.
-use Prim.Native.Nat.{ℕ, _/_, _%_}
+use Prim.Native.Nat.{_/_, _%_}
 use mathlib.Core.Path.{_≡_, refl}
 use mathlib.Core.Bool.{true, false, not, _&&_, false≢true}
 use mathlib.Core.List.{List, [], _∷_}

@@ -1,17 +1,17 @@
 -- The turns of the loops that write a list: one operator more, a run more, and the end.
-use Prim.Native.Nat.{ℕ, suc, _+_, _-_, _≤_, _<_}
+use Prim.Native.Nat.{ℕ, _+_, _-_, _≤_, _<_}
 use mathlib.Core.Path.{_≡_, refl, sym, _∙_, ap}
-use mathlib.Core.List.{List, [], _∷_, _++_}
+use mathlib.Core.List.{List}
 use native.Mathlib.Omega.{arith}
 use native.Mathlib.Numerals.{add-one}
-use lib.ListN.{length, getD, set, length-set}
+use lib.ListN.{length, getD, set}
 use lib.Seq.{sets, length-sets}
 use Rattle.ground.proofs.Overlays.{sets-append}
 use Rattle.octets.specs.Spell.{spelled}
 use Rattle.octets.specs.Widths.{widths, codeIn, widthOf}
 use Rattle.octets.proofs.Spells.{length-spelled}
 use Rattle.operators.specs.declared.Kind.{Kind}
-use Rattle.operators.specs.Ops.{clearedIn, op, opsIn, opOctets, listOctets}
+use Rattle.operators.specs.Ops.{clearedIn, op, opOctets, listOctets}
 use Rattle.listwriting.specs.Lists.{sizeIn}
 use Rattle.listwriting.specs.Runs.{between, Put}
 use Rattle.listwriting.proofs.Sizes.{size-more, size-none, ops-more, ops-none}

@@ -33,7 +33,7 @@ pub record Joined (values : List ℕ) (from to all : ℕ) : Type 0 where
   pub each : (i : ℕ) → from ≤ i → i < to → getD values i 0 ≤ all
   pub least : (k : ℕ) → ((i : ℕ) → from ≤ i → i < to → getD values i 0 < 2 ^ k) → all < 2 ^ k
 
--- what was joined, over none
+-- what was joined; over no operator it is nothing
 abbrev pub sum : ℕ → ℕ → ℕ → Sum
 sum over marks size = record { over = over; marks = marks; size = size }
 

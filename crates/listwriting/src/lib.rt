@@ -16,9 +16,9 @@ use operators::Kind;
 
 // By the width's code: the bits that no value of the width has, and the octets that an operator of the width takes.
 const BEYOND: [u64; 4] = [
-    18446744073709551360,
-    18446744073709486080,
-    18446744069414584320,
+    0xFFFFFFFFFFFFFF00,
+    0xFFFFFFFFFFFF0000,
+    0xFFFFFFFF00000000,
     0,
 ];
 
@@ -47,7 +47,7 @@ pub struct Sum {
     pub size: usize,
 }
 
-// Operators one by one. The tables are copied once, not on every turn.
+// Operators one by one. The tables are copied once, not on every turn. 2,047 operators take 18,423 octets at most.
 fn add_each(values: &[u64], octets: &[u8], from: usize, to: usize, sum: Sum) -> Sum
     requires lists { ⌜ (from ≤ to) × (to ≤ length (now values)) × (to ≤ length (now octets)) ⌝ }
     requires few { ⌜ sum .size + 9 * (to - from) ≤ 18423 ⌝ }

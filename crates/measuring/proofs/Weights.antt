@@ -26,7 +26,7 @@ use Rattle.listwriting.specs.declared.ListSize.the-variants.{Octets, NotTaken a
 use Rattle.measuring.specs.declared.Weighed.the-variants.{Takes, NotTaken}
 use Rattle.measuring.specs.Bodies.{Lent, opsOf, prefixOctets, pieceOctets}
 use Rattle.measuring.specs.Grounds.{operatorsIn, insideOf, prefixTaken, listTaken, pieceTaken, risesIn}
-use Rattle.measuring.specs.Weights.{fitsAfter, weighed, weighedOf, listSize}
+use Rattle.measuring.specs.Weights.{fitsAfter, weighed, weighedOf}
 use Rattle.measuring.proofs.Tests.{and-false}
 
 -- a prefix that is taken has at most 18 octets

@@ -10,6 +10,10 @@ use Rattle.nlri.specs.declared.RuleAnswer.the-variants.{Accepted, Refuse
 use Rattle.nlri.specs.declared.RuleRead.{RuleRead}
 use Rattle.nlri.specs.declared.Stored.{Stored}
 use Rattle.nlri.specs.declared.Stored.the-variants.{Done, Refused as NotStored}
+use Rattle.reading.specs.declared.ReadInto.{ReadInto}
+use Rattle.reading.specs.Readings.{toldInto}
+use Rattle.reading.proofs.Once.{into-once}
+use Rattle.nlri.specs.declared.Parsed.{Parsed}
 use Rattle.nlri.specs.Nlri.{toldAnswer, toldRead, toldStored}
 
 abbrev storedOne : Answer (Unit {0}) → Stored
@@ -35,3 +39,6 @@ pub one-read : (x y : RuleRead) → toldRead x ≡ toldRead y → x .rule ≡ y 
 one-read x y e f =
     let a : x .answer ≡ y .answer = sym (answer-one (x .answer) _) ∙ ap answerOne e ∙ answer-one (y .answer) _ in
     ap₂ (λ (b : RuleAnswer) (r : FlowSpecNlri). record { answer = b; rule = r }) a f
+
+pub parsed-once : (a b : Parsed) → toldInto (a .answer) ≡ toldInto (b .answer) → a .rule ≡ b .rule → a ≡ b
+parsed-once a b h e = ap₂ (λ (x : ReadInto) (y : FlowSpecNlri). record { answer = x; rule = y }) (into-once (a .answer) (b .answer) h) e

@@ -4,7 +4,7 @@
 // The functions with a `requires` are no entry points.
 ghost use mathlib.Core.Path.{_≡_};
 ghost use mathlib.Core.Bool.{true, false};
-ghost use mathlib.Core.List.{[]};
+ghost use mathlib.Core.List.{[], map};
 ghost use Prim.Native.Nat.{_+_, _*_, _≤_};
 ghost use lib.ListN.{length};
 ghost use lib.Seq.{sets};
@@ -14,6 +14,14 @@ ghost use Rattle.stored.specs.Pieces.{isRecord};
 ghost use Rattle.stored.specs.Stored.{head, storedRule, allWords, piecesFrom, ruleAt};
 ghost use Rattle.stored.proofs.Inverse.{FitPrefix, Fit, FitAll};
 ghost use Rattle.nlri.specs.Nlri.{apart, joined, piecesIn, slotsOf, ruleOf, storedOf, toldRead, ruleIn, toldStored, placesNeeded, storeAnswer, storeInto};
+ghost use Rattle.operators.specs.Ops.{octetOf, numberOf};
+ghost use Rattle.choices.specs.declared.Reading.{Reading};
+ghost use Rattle.reading.specs.Readings.{readInto, toldInto, takenOf, operatorsOf};
+ghost use Rattle.measuring.specs.Grounds.{counted};
+ghost use Rattle.writing.specs.Writings.{toldWritten, octetsIn};
+ghost use Rattle.nlri.specs.Calls.{nlriOf, writtenNlri};
+use choices::Reading;
+use reading::ReadInto;
 use refusals::Fault;
 use refusals::FlowSpecError;
 use rules::FlowSpecComponent;
@@ -22,6 +30,7 @@ use rules::NetworkPrefix;
 use rules::Slot;
 use rules::Span;
 use stored::Piece;
+use writing::Written;
 
 pub enum RuleAnswer {
     Accepted,
@@ -242,4 +251,45 @@ pub fn put_rule(words: &mut [u64], place: usize, rule: FlowSpecNlri) -> Stored
     put_slots(words, base, slots, held);
     stored::put_tail(words, base, held, rule.family, rule.first);
     Stored::Done
+}
+
+// A rule by value beside the answer, empty on a refusal: an enum can't hold an array.
+pub struct Parsed {
+    pub answer: ReadInto,
+    pub rule: FlowSpecNlri,
+}
+
+// The plain reading with the rule by value.
+pub fn parse_flowspec_nlri(input: &[u8], values: &mut [u64], octets: &mut [u8]) -> Parsed
+    ensures answer { λ r. ⌜ toldInto (r .answer) ≡ takenOf (readInto Reading.Plain (now (input .entry)) 64 (length (now (values .entry))) (length (now (octets .entry)))) ⌝ }
+    ensures rule { λ r. ⌜ r .rule ≡ nlriOf (readInto Reading.Plain (now (input .entry)) 64 (length (now (values .entry))) (length (now (octets .entry)))) ⌝ }
+    ensures values { λ r. ⌜ now (values .exit) ≡ sets (now (values .entry)) 0 (map numberOf (operatorsOf (readInto Reading.Plain (now (input .entry)) 64 (length (now (values .entry))) (length (now (octets .entry)))))) ⌝ }
+    ensures octets { λ r. ⌜ now (octets .exit) ≡ sets (now (octets .entry)) 0 (map octetOf (operatorsOf (readInto Reading.Plain (now (input .entry)) 64 (length (now (values .entry))) (length (now (octets .entry)))))) ⌝ }
+{
+    let mut words = [0u64; 64];
+    let answer = reading::read_into(Reading::Plain, input, &mut words, values, octets);
+    let read = rule_at(&words, 0);
+    let rule = read.rule;
+    Parsed {
+        answer: answer,
+        rule: rule,
+    }
+}
+
+// The plain writing of a rule by value. It goes through words.
+pub fn encode_flowspec_nlri(
+    nlri: FlowSpecNlri,
+    values: &[u64],
+    octets: &[u8],
+    out: &mut [u8],
+) -> Written
+    ensures told { λ r. ⌜ toldWritten r ≡ counted (writtenNlri nlri (now (values .entry)) (now (octets .entry)) (length (now (out .entry)))) ⌝ }
+    ensures octets { λ r. ⌜ now (out .exit) ≡ sets (now (out .entry)) 0 (octetsIn (writtenNlri nlri (now (values .entry)) (now (octets .entry)) (length (now (out .entry))))) ⌝ }
+{
+    let mut words = [0u64; 64];
+    let stored = put_rule(&mut words, 0, nlri);
+    match stored {
+        Stored::Done => writing::write_from(Reading::Plain, &words, values, octets, out),
+        Stored::Refused(fault) => Written::Refused(fault),
+    }
 }

@@ -30,8 +30,8 @@ abbrev pub either : Pair → List ℕ
 either neither = []
 either (both a b) = a ∷ b ∷ []
 
--- the numbers that a list of a type is put to, of which one will do: protocol, port, destination port, source port, ICMP type, ICMP code, TCP flags,
--- length, DSCP, fragment bits, flow label. Presence alone decides: the protocol is not looked at before ports, ICMP fields or flags
+-- the numbers that a list of a type is put to, of which one will do: 3 protocol, 4 port, 5 destination port, 6 source port, 7 ICMP type, 8 ICMP code, 9 TCP
+-- flags, 10 length, 11 DSCP, 12 fragment bits, 13 flow label. Presence alone decides: the protocol is not looked at before ports, ICMP fields or flags
 unfoldable pub numbersOf : Packet → ℕ → List ℕ
 numbersOf p type =
     pick (eqb type 3) (p .protocol ∷ [])

@@ -264,23 +264,10 @@ pub fn in_range(prefix: NetworkPrefix) -> bool
     ensures { λ r. ⌜ r ≡ inRange prefix ⌝ }
 {
     match prefix {
-        NetworkPrefix::Ipv4 { length, address: _ } => length <= 32,
-        NetworkPrefix::Ipv6 {
-            length,
-            high: _,
-            low: _,
-        } => length <= 128,
-        NetworkPrefix::Ipv4Offset {
-            length,
-            offset: _,
-            address: _,
-        } => length <= 32,
-        NetworkPrefix::Ipv6Offset {
-            length,
-            offset: _,
-            high: _,
-            low: _,
-        } => length <= 128,
+        NetworkPrefix::Ipv4 { length, .. } => length <= 32,
+        NetworkPrefix::Ipv6 { length, .. } => length <= 128,
+        NetworkPrefix::Ipv4Offset { length, .. } => length <= 32,
+        NetworkPrefix::Ipv6Offset { length, .. } => length <= 128,
     }
 }
 
@@ -335,15 +322,7 @@ pub fn valid(family: u8, prefix: NetworkPrefix) -> bool
             }
             false
         }
-        NetworkPrefix::Ipv6 {
-            length: _,
-            high: _,
-            low: _,
-        } => false,
-        NetworkPrefix::Ipv4Offset {
-            length: _,
-            offset: _,
-            address: _,
-        } => false,
+        NetworkPrefix::Ipv6 { .. } => false,
+        NetworkPrefix::Ipv4Offset { .. } => false,
     }
 }

@@ -21,23 +21,10 @@ pub fn octets_in_plain(prefix: NetworkPrefix) -> usize
     ensures { λ r. ⌜ r ≡ octetsInPlain prefix ⌝ }
 {
     match prefix {
-        NetworkPrefix::Ipv4 { length, address: _ } => 1 + prefixes::octets_of(length),
-        NetworkPrefix::Ipv6 {
-            length,
-            high: _,
-            low: _,
-        } => 1 + prefixes::octets_of(length),
-        NetworkPrefix::Ipv4Offset {
-            length: _,
-            offset: _,
-            address: _,
-        } => 2,
-        NetworkPrefix::Ipv6Offset {
-            length,
-            offset: _,
-            high: _,
-            low: _,
-        } => 2 + prefixes::octets_of(length),
+        NetworkPrefix::Ipv4 { length, .. } => 1 + prefixes::octets_of(length),
+        NetworkPrefix::Ipv6 { length, .. } => 1 + prefixes::octets_of(length),
+        NetworkPrefix::Ipv4Offset { .. } => 2,
+        NetworkPrefix::Ipv6Offset { length, .. } => 2 + prefixes::octets_of(length),
     }
 }
 
@@ -55,23 +42,11 @@ pub fn octets_in_standard(prefix: NetworkPrefix) -> usize
     ensures { λ r. ⌜ r ≡ octetsInStandard prefix ⌝ }
 {
     match prefix {
-        NetworkPrefix::Ipv4 { length, address: _ } => 1 + prefixes::octets_of(length),
-        NetworkPrefix::Ipv6Offset {
-            length,
-            offset,
-            high: _,
-            low: _,
-        } => 2 + prefixes::octets_of(bits_between(offset, length)),
-        NetworkPrefix::Ipv6 {
-            length: _,
-            high: _,
-            low: _,
-        } => 0,
-        NetworkPrefix::Ipv4Offset {
-            length: _,
-            offset: _,
-            address: _,
-        } => 0,
+        NetworkPrefix::Ipv4 { length, .. } => 1 + prefixes::octets_of(length),
+        NetworkPrefix::Ipv6Offset { length, offset, .. } => 2
+            + prefixes::octets_of(bits_between(offset, length)),
+        NetworkPrefix::Ipv6 { .. } => 0,
+        NetworkPrefix::Ipv4Offset { .. } => 0,
     }
 }
 
@@ -152,11 +127,14 @@ pub fn put_plain(prefix: NetworkPrefix, out: &mut [u8], at: usize)
                 low: low,
             },
         ),
-        NetworkPrefix::Ipv4Offset {
+        NetworkPrefix::Ipv4Offset { length, offset, .. } => put_two(
+            out,
+            at,
             length,
             offset,
-            address: _,
-        } => put_two(out, at, length, offset, 0, Wide { high: 0, low: 0 }),
+            0,
+            Wide { high: 0, low: 0 },
+        ),
         NetworkPrefix::Ipv6Offset {
             length,
             offset,
@@ -206,15 +184,7 @@ pub fn put_standard(prefix: NetworkPrefix, out: &mut [u8], at: usize)
                 low: low,
             },
         ),
-        NetworkPrefix::Ipv6 {
-            length: _,
-            high: _,
-            low: _,
-        } => {}
-        NetworkPrefix::Ipv4Offset {
-            length: _,
-            offset: _,
-            address: _,
-        } => {}
+        NetworkPrefix::Ipv6 { .. } => {}
+        NetworkPrefix::Ipv4Offset { .. } => {}
     }
 }

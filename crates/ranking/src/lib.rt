@@ -231,11 +231,10 @@ fn prefix_against(tag: u8, prefix: NetworkPrefix, other: Piece) -> Order
             Order::Equal => compare_prefixes(prefix, prefix2),
             Order::Follows => Order::Follows,
         },
-        Piece::Operators {
-            tag: tag2,
-            start: _,
-            count: _,
-        } => then_by(compare_numbers(tag as u64, tag2 as u64), Order::Precedes),
+        Piece::Operators { tag: tag2, .. } => then_by(
+            compare_numbers(tag as u64, tag2 as u64),
+            Order::Precedes,
+        ),
         Piece::NoRecord => Order::Precedes,
     }
 }
@@ -276,10 +275,10 @@ fn list_against(
             ),
             Order::Follows => Order::Follows,
         },
-        Piece::Prefix {
-            tag: tag2,
-            prefix: _,
-        } => then_by(compare_numbers(tag as u64, tag2 as u64), Order::Follows),
+        Piece::Prefix { tag: tag2, .. } => then_by(
+            compare_numbers(tag as u64, tag2 as u64),
+            Order::Follows,
+        ),
         Piece::NoRecord => Order::Follows,
     }
 }

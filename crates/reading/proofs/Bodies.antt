@@ -17,7 +17,7 @@ use Rattle.operators.specs.Ops.{Op}
 use Rattle.stored.specs.declared.Piece.{Piece}
 use Rattle.stored.proofs.Inverse.{FitPrefix, Fit, FitAll}
 use Rattle.prefixes.specs.declared.PrefixAt.{PrefixAt}
-use Rattle.prefixes.specs.Prefixes.{octetsOf, offsetIn, statedAt, frontAddress, plainPrefix, ipv4Prefix, madeIn, spelledAt, prefixFrom, prefixAt}
+use Rattle.prefixes.specs.Prefixes.{octetsOf, offsetIn, namedAt, frontAddress, plainPrefix, ipv4Prefix, madeIn, spelledAt, prefixFrom, prefixAt}
 use Rattle.prefixes.proofs.Addresses.{front-lt}
 use Rattle.prefixes.proofs.Laws.{Ranged, taken-ranged, prefix-ways}
 use Rattle.prefixes.proofs.Accepted.{Octets, taken-value, front-value}
@@ -52,7 +52,7 @@ prefix-fits : (r : Reading) (s : List ℕ) (at : ℕ) (q : PrefixAt) → Octets 
 prefix-fits r s at q o e =
     subst FitIn e
     (prefix-ways r s at FitIn tt tt
-    (λ k. made-fits r (getD s at 0) (offsetIn r s at) (spelledAt s (statedAt r s at)) (taken-ranged r s at k) (taken-value r s at o k)))
+    (λ k. made-fits r (getD s at 0) (offsetIn r s at) (spelledAt s (namedAt r s at)) (taken-ranged r s at k) (taken-value r s at o k)))
 
 piece-in : {x p : FoundAt} → accepts x ≡ accepts p → x .piece ≡ p .piece
 piece-in {x} {p} e = let z : x ≡ p = cc in ap (λ (y : FoundAt). y .piece) z

@@ -14,6 +14,7 @@ use Rattle.octets.specs.declared.Length.{Length}
 use Rattle.octets.specs.Lengths.{lengthIs, lengthAt, lengthOctets}
 use Rattle.octets.proofs.Lengths.{read-none, read-one, read-half, read-two}
 use Rattle.prefixes.proofs.Accepted.{Octets}
+use Rattle.writing.proofs.Laws.{length-most}
 
 one-octet : (n : ℕ) → n < 240 → lengthOctets n ≡ n ∷ []
 unfolding lengthOctets
@@ -50,11 +51,8 @@ same e = cc
 stated-one : (n : ℕ) → n < 240 → Stated (record { size = n; next = record { at = 1 } })
 stated-one n h = record { most = omega arith; least = rw (one-octet n h) (omega arith) }
 
-octets-two : (n : ℕ) → length (lengthOctets n) ≤ 2
-octets-two n = ⊎-elim (λ h. rw (one-octet n h) (omega arith)) (λ h. rw (two-octets n h) (omega arith)) (lt-or-le n 240)
-
 stated-two : (n : ℕ) → n ≤ 4095 → Stated (record { size = n; next = record { at = 2 } })
-stated-two n h = record { most = h; least = octets-two n }
+stated-two n h = record { most = h; least = length-most n }
 
 pub length-stated : (s : List ℕ) (l : Length) → Octets s → lengthAt s 0 ≡ accepts l → Stated l
 length-stated s l o e =

@@ -12,40 +12,39 @@
 --     the functions that are told a family, with the lists as the reading leaves them.
 -- (c) The body is exact. `body-exact`: an accepted standard reading uses the stated length to its last octet, and its components leave none
 --     over.
--- (d) No second answer. `read-once`, `parsed-once`, `written-once`: two answers that meet one contract are the same. What a call leaves in the
---     lent lists is stated whole in its contract, so that has no second either.
+-- (d) No second answer. `read-once`, `written-once`: two answers that meet one contract are the same. What a call leaves in the lent lists is
+--     stated whole in its contract, so that has no second either.
 --
 -- Words are below 2 ^ 64 and the octets of an input below 256, as their types have it (`Words`, `Octets`). Assumes nothing else.
 use Prim.Native.Nat.{ℕ}
-use mathlib.Core.Path.{_≡_, sym, ap, _∙_, subst}
+use mathlib.Core.Path.{_≡_, sym, ap, _∙_}
 use mathlib.Core.List.{List, [], _++_, map}
 use lib.ListN.{length}
 use lib.Seq.{sets}
 use Rattle.ground.specs.Answers.{accepts}
 use Rattle.choices.specs.declared.Reading.{Reading}
 use Rattle.choices.specs.declared.Reading.the-variants.{Plain}
+use Rattle.choices.specs.Choices.{familyOf}
 use Rattle.operators.specs.Ops.{octetOf, numberOf}
 use Rattle.prefixes.proofs.Accepted.{Octets}
-use Rattle.stored.specs.Stored.{ruleWords, StoredRule, storedRule, ruleAt}
+use Rattle.stored.specs.Stored.{head, ruleWords, StoredRule, storedRule, ruleAt}
 use Rattle.walk.specs.Walks.{body}
-use Rattle.pieces.specs.Pieces.{pieceOf}
 use Rattle.measuring.specs.Bodies.{lent, opsOf}
 use Rattle.measuring.specs.Grounds.{allOperators}
+use Rattle.measuring.proofs.Laws.{standard-shows}
 use Rattle.reading.specs.declared.ReadInto.{ReadInto}
-use Rattle.reading.specs.declared.Parsed.{Parsed}
 use Rattle.reading.specs.Readings.{ReadRule, readRule, readAt, standardInto, toldInto}
-use Rattle.choices.specs.Choices.{familyOf}
 use Rattle.reading.proofs.Laws.{Exact, to-the-last-octet}
-use Rattle.reading.proofs.Once.{into-once, parsed-once as parsed-one}
+use Rattle.reading.proofs.Once.{into-once}
 use Rattle.writing.specs.declared.Written.{Written}
 use Rattle.writing.specs.Writings.{writtenFrom, writtenIn, toldWritten}
+use Rattle.writing.proofs.Laws.{written-named, written-in}
 use Rattle.writing.proofs.Once.{written-once as written-one}
 use Rattle.roundtrips.specs.Trips.{canonical, Canonical, Words, Room, Again}
-use Rattle.roundtrips.proofs.Backs.{written-back, rewritten, read-fronts}
-use Rattle.roundtrips.proofs.Entries.{into-written}
-use Rattle.roundtrips.proofs.Families.{standard, not-plain, read-named, written-named, standard-into, written-in}
-use Rattle.roundtrips.proofs.Rooms.{with-room}
-use Rattle.roundtrips.proofs.Sames.{canonical-same}
+use Rattle.roundtrips.proofs.CanonicalForm.{canonical-same}
+use Rattle.roundtrips.proofs.FamiliesAndRooms.{standard, not-plain, standard-into, with-room}
+use Rattle.roundtrips.proofs.ReadRules.{rewritten, read-fronts, into-written}
+use Rattle.roundtrips.proofs.WrittenRules.{written-back}
 
 -- (a)
 module _ (w : Reading) (h : w ≡ Plain → ⊥) (words values octets : List ℕ) (room : ℕ) (xs : List ℕ) (rule : StoredRule) where
@@ -55,8 +54,7 @@ module _ (w : Reading) (h : w ≡ Plain → ⊥) (words values octets : List ℕ
 
   pub written-read-same : Words words → ruleAt words 0 ≡ accepts rule → Canonical rule values octets → writtenFrom w words values octets room ≡ accepts xs
       → (ys : List ℕ)
-      → readAt w (xs ++ ys)
-      ≡ accepts (readRule (body (rule .components) (opsOf (lent values octets (rule .first)) 0 (allOperators (map pieceOf (rule .components))))) (familyOf w) (length xs))
+      → readAt w (xs ++ ys) ≡ accepts (readRule (body (rule .pieces) (opsOf (lent values octets (rule .head .first)) 0 (allOperators (rule .pieces)))) (familyOf w) (length xs))
   written-read-same ws i c e ys =
       written-read ws i e ys ∙ ap (λ b. accepts (readRule b (familyOf w) (length xs))) (canonical-same rule values octets c)
 
@@ -67,41 +65,31 @@ pub written-read-in : (family : ℕ) (words values octets : List ℕ) (room : �
 written-read-in family words values octets room xs rule ws i e ys a b c r =
     let n = written-named family words values octets room xs e in
     let w = n .reading in
-    let q = sym (written-in w (n .kept) words values octets room) ∙ ap (λ (f : ℕ). writtenIn f words values octets room) (n .is) ∙ e in
-    subst
-    (λ (f : ℕ). Room (readRule (canonical rule values octets) f (length xs)) a b c → standardInto f (xs ++ ys) a b c ≡ accepts (readRule (canonical rule values octets) f (length xs)))
-    (n .is)
-    (λ m. standard-into w (n .kept) (xs ++ ys) a b c
-    ∙ with-room w (xs ++ ys) (readRule (canonical rule values octets) (familyOf w) (length xs)) a b c
-    (written-read w (not-plain w (n .kept)) words values octets room xs rule ws i q ys) m) r
+    let st = standard-shows family w (n .is) in
+    let q = sym (written-in family words values octets w (n .is) room) ∙ e in
+    let p = written-read w (not-plain w (st .0)) words values octets room xs rule ws i q ys in
+    standard-into family (xs ++ ys) a b c w (n .is)
+    ∙ with-room w (xs ++ ys) (readRule (canonical rule values octets) family (length xs)) a b c
+    (p ∙ ap (λ (f : ℕ). accepts (readRule (canonical rule values octets) f (length xs))) (st .1)) r
 
 -- (b)
 module _ (w : Reading) (h : w ≡ Plain → ⊥) (s : List ℕ) (rule : ReadRule) where
   pub read-written : Octets s → readAt w s ≡ accepts rule → (words values octets : List ℕ)
       → Again
-      (writtenFrom w (ruleWords (rule .components) (rule .family) 0 ++ words) (map numberOf (rule .operators) ++ values) (map octetOf (rule .operators) ++ octets))
+      (writtenFrom w (ruleWords (rule .pieces) (head (rule .family) 0) ++ words) (map numberOf (rule .operators) ++ values) (map octetOf (rule .operators) ++ octets))
       (readAt w) rule
   read-written o e words values octets = rewritten w (standard w h) words values octets s rule o e
 
   pub read-canonical : Octets s → readAt w s ≡ accepts rule → (values octets : List ℕ)
-      → Canonical (storedRule (rule .components) (rule .family) 0) (map numberOf (rule .operators) ++ values) (map octetOf (rule .operators) ++ octets)
+      → Canonical (storedRule (rule .pieces) (head (rule .family) 0)) (map numberOf (rule .operators) ++ values) (map octetOf (rule .operators) ++ octets)
   read-canonical o e values octets = read-fronts w (standard w h) [] values octets s rule o e
 
 pub read-written-in : (family : ℕ) (s words values octets : List ℕ) (rule : ReadRule)
     → Octets s → standardInto family s (length words) (length values) (length octets) ≡ accepts rule
     → Again
-    (writtenIn family (sets words 0 (ruleWords (rule .components) (rule .family) 0)) (sets values 0 (map numberOf (rule .operators))) (sets octets 0 (map octetOf (rule .operators))))
+    (writtenIn family (sets words 0 (ruleWords (rule .pieces) (head (rule .family) 0))) (sets values 0 (map numberOf (rule .operators))) (sets octets 0 (map octetOf (rule .operators))))
     (λ x. standardInto family x (length words) (length values) (length octets)) rule
-read-written-in family s words values octets rule o e =
-    let n = read-named family s (length words) (length values) (length octets) rule e in
-    let w = n .reading in
-    subst
-    (λ (f : ℕ). standardInto f s (length words) (length values) (length octets) ≡ accepts rule
-    → Again
-    (writtenIn f (sets words 0 (ruleWords (rule .components) (rule .family) 0)) (sets values 0 (map numberOf (rule .operators))) (sets octets 0 (map octetOf (rule .operators))))
-    (λ x. standardInto f x (length words) (length values) (length octets)) rule)
-    (n .is)
-    (λ q. into-written s words values octets rule o w (n .kept) (sym (standard-into w (n .kept) s (length words) (length values) (length octets)) ∙ q)) e
+read-written-in family s words values octets rule o e = into-written family s words values octets rule o e
 
 -- (c)
 pub body-exact : (w : Reading) → (w ≡ Plain → ⊥) → (s : List ℕ) (rule : ReadRule) → readAt w s ≡ accepts rule → Exact w s rule
@@ -110,9 +98,6 @@ body-exact = to-the-last-octet
 -- (d)
 pub read-once : (a b : ReadInto) → toldInto a ≡ toldInto b → a ≡ b
 read-once = into-once
-
-pub parsed-once : (a b : Parsed) → toldInto (a .answer) ≡ toldInto (b .answer) → a .rule ≡ b .rule → a ≡ b
-parsed-once = parsed-one
 
 pub written-once : (a b : Written) → toldWritten a ≡ toldWritten b → a ≡ b
 written-once = written-one

@@ -7,27 +7,24 @@ use mathlib.Core.List.{List, [], _∷_, _++_, map}
 use lib.ListN.{length, getD}
 use Rattle.ground.specs.Answers.{Answer, accepts}
 use Rattle.operators.specs.Ops.{kindOf, Op}
-use Rattle.rules.specs.declared.FlowSpecComponent.{FlowSpecComponent}
-use Rattle.rules.specs.declared.FlowSpecComponent.the-variants.{Nothing}
-use Rattle.rules.specs.Components.{prefixOf, listOf}
-use Rattle.stored.specs.Stored.{StoredRule, span}
+use Rattle.stored.specs.declared.Piece.{Piece}
+use Rattle.stored.specs.declared.Piece.the-variants.{Prefix, Operators, NoRecord}
+use Rattle.stored.specs.Pieces.{typeOf}
+use Rattle.stored.specs.Stored.{StoredRule}
 use Rattle.lists.specs.Lists.{clearedOp}
-use Rattle.pieces.specs.declared.Piece.{Piece}
-use Rattle.pieces.specs.declared.Piece.the-variants.{Prefix, Operators, NoRecord}
-use Rattle.pieces.specs.Pieces.{pieceOf}
 use Rattle.measuring.specs.Bodies.{Lent, lent, opsOf}
-use Rattle.measuring.specs.Grounds.{operatorsIn, kindIn}
+use Rattle.measuring.specs.Grounds.{operatorsIn}
 use Rattle.walk.specs.Walks.{Body, body}
 use Rattle.reading.specs.Readings.{ReadRule, readRule}
 
 -- the same component, its operators from a place on
-abbrev pub placedAt : ℕ → Piece → FlowSpecComponent
-placedAt start (Prefix t p) = prefixOf t p
-placedAt start (Operators t from count) = listOf t (span start count)
-placedAt start NoRecord = Nothing
+abbrev pub placedAt : ℕ → Piece → Piece
+placedAt start (Prefix t p) = Prefix t p
+placedAt start (Operators t from count) = Operators t start count
+placedAt start NoRecord = NoRecord
 
 -- the same components, each one's operators after those of the one before
-unfoldable pub placed : ℕ → List Piece → List FlowSpecComponent
+unfoldable pub placed : ℕ → List Piece → List Piece
 placed start [] = []
 placed start (p ∷ ps) = placedAt start p ∷ placed (start + operatorsIn p) ps
 
@@ -43,7 +40,7 @@ named l (p ∷ ps) = namedBy l p ++ named l ps
 
 -- and with reserved bits 0: "Reserved operator bits are written 0"
 abbrev pub clearedBy : Lent → Piece → List Op
-clearedBy l p = map (clearedOp (kindOf (kindIn p))) (namedBy l p)
+clearedBy l p = map (clearedOp (kindOf (typeOf p))) (namedBy l p)
 
 unfoldable pub cleared : Lent → List Piece → List Op
 cleared l [] = []
@@ -51,12 +48,12 @@ cleared l (p ∷ ps) = clearedBy l p ++ cleared l ps
 
 abbrev pub canonical : StoredRule → List ℕ → List ℕ → Body
 canonical s values octets =
-    body (placed 0 (map pieceOf (s .components))) (cleared (lent values octets (s .first)) (map pieceOf (s .components)))
+    body (placed 0 (s .pieces)) (cleared (lent values octets (s .head .first)) (s .pieces))
 
 -- a rule that counts its places so, with no reserved bit set, as every reading leaves it
 pub record Canonical (s : StoredRule) (values octets : List ℕ) : Type 0 where
-  pub counted : placed 0 (map pieceOf (s .components)) ≡ s .components
-  pub clear : cleared (lent values octets (s .first)) (map pieceOf (s .components)) ≡ named (lent values octets (s .first)) (map pieceOf (s .components))
+  pub counted : placed 0 (s .pieces) ≡ s .pieces
+  pub clear : cleared (lent values octets (s .head .first)) (s .pieces) ≡ named (lent values octets (s .head .first)) (s .pieces)
 
 -- what every lent word is
 abbrev pub Words : List ℕ → Type 0
@@ -73,4 +70,4 @@ pub record Again (write : ℕ → Answer (List ℕ)) (read : List ℕ → Answer
   pub out : List ℕ
   pub no-longer : length out ≤ rule .used
   pub written : (room : ℕ) → length out ≤ room → write room ≡ accepts out
-  pub back : (ys : List ℕ) → read (out ++ ys) ≡ accepts (readRule (body (rule .components) (rule .operators)) (rule .family) (length out))
+  pub back : (ys : List ℕ) → read (out ++ ys) ≡ accepts (readRule (body (rule .pieces) (rule .operators)) (rule .family) (length out))

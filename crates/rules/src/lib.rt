@@ -71,26 +71,10 @@ impl NetworkPrefix {
         ensures { λ r. ⌜ r ≡ prefixCounts self ⌝ }
     {
         match self {
-            NetworkPrefix::Ipv4 {
-                length: _,
-                address: _,
-            } => 4,
-            NetworkPrefix::Ipv6 {
-                length: _,
-                high: _,
-                low: _,
-            } => 6,
-            NetworkPrefix::Ipv4Offset {
-                length: _,
-                offset: _,
-                address: _,
-            } => 6,
-            NetworkPrefix::Ipv6Offset {
-                length: _,
-                offset: _,
-                high: _,
-                low: _,
-            } => 6,
+            NetworkPrefix::Ipv4 { .. } => 4,
+            NetworkPrefix::Ipv6 { .. } => 6,
+            NetworkPrefix::Ipv4Offset { .. } => 6,
+            NetworkPrefix::Ipv6Offset { .. } => 6,
         }
     }
 }

@@ -68,26 +68,15 @@ module _ (q : Quad) where
         (rw (le-ltb (q .mark % 16) 3 (omega arith)) (ap (λ (j : ℕ). Operators j (q .a) (q .b)) (sym h)))
         (rw (eq-eqb t (q .mark) k, eq-eqb (q .a) (q .a) refl, eq-eqb (q .b) (q .b) refl) e)
 
--- the words of a list and of an IPv4 prefix, where they stand
-module _ (ws : List ℕ) (at : ℕ) (none : getD ws (at + 3) 0 ≡ 0) where
-  pub list-front : 3 ≤ getD ws at 0 → getD ws at 0 ≤ 13 → Operators (getD ws at 0) (getD ws (at + 1) 0) (getD ws (at + 2) 0) ≡ pieceAt ws at
-  unfolding pieceAt
-  list-front l h =
-      let e : getD ws at 0 ≡ getD ws at 0 % 16 = omega arith in
-      piece-list (quadAt ws at) (getD ws at 0) e l true (omega arith) (eq-eqb 0 (getD ws (at + 3) 0) (sym none))
-
-  pub ipv4-front : 1 ≤ getD ws at 0 → getD ws at 0 ≤ 2 → getD ws (at + 1) 0 ≤ 255 → getD ws (at + 2) 0 ≤ 4294967295 → Prefix (getD ws at 0) (Ipv4 (getD ws (at + 1) 0) (getD ws (at + 2) 0)) ≡ pieceAt ws at
-  unfolding pieceAt
-  ipv4-front l h i j =
-      let t = getD ws at 0 in
-      let a = getD ws (at + 1) 0 in
-      let b = getD ws (at + 2) 0 in
-      let e : t ≡ t % 16 = omega arith in
-      let z : t / 16 ≡ 0 = omega arith in
-      let f : a ≡ a % 256 = omega arith in
-      let g : b ≡ b % 2 ^ 32 = omega arith in
-      piece-prefix (quadAt ws at) true t e l h (Ipv4 a b) (rw (eq-eqb (t / 16) 0 z) (ap₂ Ipv4 f g))
-      (rw (eq-eqb t t refl, eq-eqb a a refl, eq-eqb b b refl, eq-eqb 0 (getD ws (at + 3) 0) (sym none)))
+-- the words of an IPv4 prefix
+pub ipv4-words : (q : Quad) (t : ℕ) → t ≡ q .mark % 16 → 1 ≤ t → t ≤ 2 → q .mark < 3 → q .c ≡ 0 → q .a ≤ 255 → q .b ≤ 4294967295 → Prefix t (Ipv4 (q .a) (q .b)) ≡ pieceOf q
+ipv4-words q t e l h m z i j =
+    let k : t ≡ q .mark = omega arith in
+    let n : q .mark / 16 ≡ 0 = omega arith in
+    let f : q .a ≡ q .a % 256 = omega arith in
+    let g : q .b ≡ q .b % 2 ^ 32 = omega arith in
+    piece-prefix q true t e l h (Ipv4 (q .a) (q .b)) (rw (eq-eqb (q .mark / 16) 0 n) (ap₂ Ipv4 f g))
+    (rw (eq-eqb t (q .mark) k, eq-eqb (q .a) (q .a) refl, eq-eqb (q .b) (q .b) refl, eq-eqb 0 (q .c) (sym z)))
 
 -- four words stored one by one
 pub sets-four : (l : List ℕ) (at x y z w : ℕ) → set (set (set (set l at x) (at + 1) y) (at + 2) z) (at + 3) w ≡ sets l at (x ∷ y ∷ z ∷ w ∷ [])

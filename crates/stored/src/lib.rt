@@ -176,7 +176,31 @@ fn list_in(tag: u8, q: Quad) -> Piece
     Piece::NoRecord
 }
 
-fn other_piece(words: &[u64], at: usize) -> Piece
+// A prefix of IPv4 is taken from its words: to write what they name and compare would cost twice the time.
+fn prefix_at(tag: u8, q: Quad) -> Piece
+    requires { ⌜ (tag ≡ q .mark % 16) × (1 ≤ tag) × (tag ≤ 2) ⌝ }
+    ensures { λ r. ⌜ r ≡ pieceOf q ⌝ }
+{
+    if q.mark < 3 {
+        if q.c == 0 {
+            if q.a <= 255 {
+                if q.b <= 4294967295 {
+                    return Piece::Prefix {
+                        tag: tag,
+                        prefix: NetworkPrefix::Ipv4 {
+                            length: q.a as u8,
+                            address: q.b as u32,
+                        },
+                    };
+                }
+            }
+        }
+    }
+    prefix_in(tag, q)
+}
+
+// The piece at a word, NoRecord where the words name none. No entry point.
+pub fn piece_at(words: &[u64], at: usize) -> Piece
     requires { ⌜ at + 4 ≤ length (now words) ⌝ }
     ensures { λ r. ⌜ r ≡ pieceAt (now (words .entry)) at ⌝ }
 {
@@ -186,69 +210,17 @@ fn other_piece(words: &[u64], at: usize) -> Piece
         if tag == 0 {
             return Piece::NoRecord;
         }
-        return prefix_in(tag, q);
+        return prefix_at(tag, q);
     }
     list_in(tag, q)
-}
-
-// IPv4 prefixes are taken from the words themselves: to write what they name and compare would cost twice the time.
-fn prefix_at(words: &[u64], at: usize) -> Piece
-    requires { ⌜ at + 4 ≤ length (now words) ⌝ }
-    ensures { λ r. ⌜ r ≡ pieceAt (now (words .entry)) at ⌝ }
-{
-    let mark = words[at];
-    let a = words[at + 1];
-    let b = words[at + 2];
-    if words[at + 3] == 0 {
-        if 1 <= mark {
-            if mark <= 2 {
-                if a <= 255 {
-                    if b <= 4294967295 {
-                        return Piece::Prefix {
-                            tag: mark as u8,
-                            prefix: NetworkPrefix::Ipv4 {
-                                length: a as u8,
-                                address: b as u32,
-                            },
-                        };
-                    }
-                }
-            }
-        }
-    }
-    other_piece(words, at)
-}
-
-// The piece at a word, NoRecord where the words name none. No entry point. So are lists.
-pub fn piece_at(words: &[u64], at: usize) -> Piece
-    requires { ⌜ at + 4 ≤ length (now words) ⌝ }
-    ensures { λ r. ⌜ r ≡ pieceAt (now (words .entry)) at ⌝ }
-{
-    let mark = words[at];
-    if words[at + 3] == 0 {
-        if 3 <= mark {
-            if mark <= 13 {
-                return Piece::Operators {
-                    tag: mark as u8,
-                    start: words[at + 1] as usize,
-                    count: words[at + 2] as usize,
-                };
-            }
-        }
-    }
-    prefix_at(words, at)
 }
 
 fn is_record(piece: Piece) -> bool
     ensures { λ r. ⌜ r ≡ isRecord piece ⌝ }
 {
     match piece {
-        Piece::Prefix { tag: _, prefix: _ } => true,
-        Piece::Operators {
-            tag: _,
-            start: _,
-            count: _,
-        } => true,
+        Piece::Prefix { .. } => true,
+        Piece::Operators { .. } => true,
         Piece::NoRecord => false,
     }
 }

@@ -1,6 +1,3 @@
-pub mod Formed
-pub mod Insides
 pub mod Once
-pub mod Rooms
-pub mod Shifts
-pub mod Ways
+pub mod RestOfWords
+pub mod WellFormed

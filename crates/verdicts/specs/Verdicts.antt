@@ -1,44 +1,43 @@
 -- Which stored rules are well-formed, and what matching and ranking answer where they are called by themselves: each refuses as the chooser
 -- does for that rule and packet. Document 01, "What comes back", the order of refusals in choosing.
-use Prim.Native.Nat.{ℕ, _+_}
+use Prim.Native.Nat.{ℕ}
 use mathlib.Core.List.{List, [], _∷_}
 use mathlib.Core.Bool.{Bool, true, false, not}
-use lib.ListN.{getD, drop}
+use lib.ListN.{drop}
 use lib.Dec.{eqb}
 use Rattle.ground.specs.Answers.{Answer, accepts, refuses, declines}
 use Rattle.ground.specs.Picks.{pick}
 use Rattle.refusals.specs.Refusals.{refusal}
-use Rattle.stored.specs.Stored.{storedAt}
-use Rattle.packets.specs.declared.Packet.{Packet}
-use Rattle.packets.specs.Packets.{packetOk}
+use Rattle.stored.specs.Stored.{familyAt, storedAt}
+use Rattle.packets.specs.Packets.{Packet, packetOk}
 use Rattle.matching.specs.Rules.{ruleMatches}
 use Rattle.ranking.specs.declared.Order.{Order}
 use Rattle.ranking.specs.Ranks.{rankOf}
-use Rattle.writing.specs.Writings.{writtenIn}
+use Rattle.writing.specs.Writings.{bodyIn}
 use Rattle.verdicts.specs.declared.Matched.{Matched}
 use Rattle.verdicts.specs.declared.Matched.the-variants.{Is as Matches, Refused as NotMatched}
 use Rattle.verdicts.specs.declared.Ranked.{Ranked}
 use Rattle.verdicts.specs.declared.Ranked.the-variants.{Is as Ranks, Refused as NotRanked}
 
-abbrev pub accepted : Answer (List ℕ) → Bool
-accepted (accepts xs) = true
+abbrev pub accepted {ℓ} : {A : Type ℓ} → Answer A → Bool
+accepted (accepts x) = true
 accepted (declines f) = false
 
--- the 64 words from a word on, by "the standard writing in the rule's own family", which is their word 53. With 4097 octets no rule is short
--- of room, so that what is refused is refused by 11, 10 or 7 (`in-any-room` in proofs/)
-abbrev pub ownWriting : List ℕ → List ℕ → List ℕ → ℕ → Answer (List ℕ)
-ownWriting words values octets at = writtenIn (getD words (at + 53) 0) (drop at words) values octets 4097
+-- the body of the 64 words from a word on by "the standard writing in the rule's own family". What that refuses by 11, 10 or 7 it refuses of the body, in
+-- whatever room (`in-any-room` in proofs/)
+abbrev pub ownBody : List ℕ → List ℕ → List ℕ → ℕ → Answer (List ℕ)
+ownBody words values octets at = bodyIn (familyAt words at) (drop at words) values octets
 
 -- "10 (any rule the standard writing in the rule's own family refuses by 11, 10 or 7; every other is well-formed)"
 unfoldable pub wellFormed : List ℕ → List ℕ → List ℕ → ℕ → Bool
-wellFormed words values octets at = accepted (ownWriting words values octets at)
+wellFormed words values octets at = accepted (ownBody words values octets at)
 
 -- whether a packet satisfies the rule at the front of the words: "13, 10 .., 14 (a rule's family is not the packet's)", at place 0
 unfoldable pub matchVerdict : List ℕ → List ℕ → List ℕ → Packet → Answer Bool
 matchVerdict words values octets p =
     pick (not (packetOk p)) (refuses 13 [])
     (pick (not (wellFormed words values octets 0)) (refuses 10 [])
-    (pick (not (eqb (storedAt words 0 .family) (p .family))) (refuses 14 (0 ∷ []))
+    (pick (not (eqb (storedAt words 0 .head .family) (p .family))) (refuses 14 (0 ∷ []))
     (accepts (ruleMatches values octets p (storedAt words 0)))))
 
 -- what the rule at the front of the first words is to the one at the front of the second: 10 of either; of two families, 14 at place 1, the
@@ -47,7 +46,7 @@ unfoldable pub rankVerdict : List ℕ → List ℕ → List ℕ → List ℕ →
 rankVerdict words values octets words2 values2 octets2 =
     pick (not (wellFormed words values octets 0)) (refuses 10 [])
     (pick (not (wellFormed words2 values2 octets2 0)) (refuses 10 [])
-    (pick (not (eqb (storedAt words 0 .family) (storedAt words2 0 .family))) (refuses 14 (1 ∷ []))
+    (pick (not (eqb (storedAt words 0 .head .family) (storedAt words2 0 .head .family))) (refuses 14 (1 ∷ []))
     (accepts (rankOf values octets (storedAt words 0) values2 octets2 (storedAt words2 0)))))
 
 -- the answers as they are told

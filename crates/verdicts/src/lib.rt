@@ -1,16 +1,11 @@
 // Which stored rules are well-formed, and matching and ranking callable by themselves: they refuse as the chooser does.
-//
-// The functions with a `requires` are no entry points.
 ghost use mathlib.Core.Path.{_≡_};
-ghost use mathlib.Core.Bool.{true};
-ghost use Prim.Native.Nat.{_≤_};
-ghost use lib.ListN.{length};
-ghost use Rattle.writing.specs.Frames.{framed};
-ghost use Rattle.writing.specs.Writings.{writtenFrom};
+ghost use Rattle.packets.specs.Packets.{packetAt};
+ghost use Rattle.writing.specs.Writings.{bodyFrom};
 ghost use Rattle.verdicts.specs.Verdicts.{accepted, wellFormed, matchVerdict, rankVerdict, toldMatched, toldRanked};
 use choices::Reading;
+use choices::Standard;
 use measuring::Measured;
-use packets::Packet;
 use ranking::Order;
 use refusals::Fault;
 use refusals::FlowSpecError;
@@ -27,35 +22,18 @@ pub enum Ranked {
     Refused(Fault),
 }
 
-// Whether a writing takes the components of a rule, all but the components tested. Nothing is written.
-fn body_formed(writing: Reading, words: &[u64], values: &[u64], octets: &[u8]) -> bool
-    requires { ⌜ (64 ≤ length (now words)) × (framed (now words) ≡ true) ⌝ }
-    ensures { λ r. ⌜ r ≡ accepted (writtenFrom writing (now (words .entry)) (now (values .entry)) (now (octets .entry)) 4097) ⌝ }
+// Whether the rule at the front of the words can be measured in a writing.
+fn is_measured(writing: Reading, words: &[u64], values: &[u64], octets: &[u8]) -> bool
+    ensures { λ r. ⌜ r ≡ accepted (bodyFrom writing (now (words .entry)) (now (values .entry)) (now (octets .entry))) ⌝ }
 {
-    let count = words[52] as usize;
-    let first = words[54] as usize;
-    match measuring::measure(writing, words, count, first, values, octets) {
-        Measured::Body(body) => body <= 4095,
-        Measured::BadRecord => false,
+    match writing::measure(writing, words, values, octets) {
+        Measured::Body(_) => true,
+        Measured::Refused(_) => false,
     }
 }
 
-// The rule at the front of the words.
-fn front_formed(words: &[u64], values: &[u64], octets: &[u8]) -> bool
-    requires { ⌜ 64 ≤ length (now words) ⌝ }
-    ensures { λ r. ⌜ r ≡ wellFormed (now (words .entry)) (now (values .entry)) (now (octets .entry)) 0 ⌝ }
-{
-    if !writing::is_framed(words) {
-        return false;
-    }
-    match words[53] {
-        4 => body_formed(Reading::Ipv4, words, values, octets),
-        6 => body_formed(Reading::Ipv6, words, values, octets),
-        _ => false,
-    }
-}
-
-// Whether the 64 words from a word on are a rule that the standard writing in its own family takes. Words that are not there are none.
+// Whether the 64 words from a word on are a rule that the standard writing in its own family takes. Words that are not there are none. A family
+// that is no octet may be cut to one, since words with such a family are measured as no rule.
 pub fn well_formed(words: &[u64], at: usize, values: &[u64], octets: &[u8]) -> bool
     ensures { λ r. ⌜ r ≡ wellFormed (now (words .entry)) (now (values .entry)) (now (octets .entry)) at ⌝ }
 {
@@ -66,14 +44,18 @@ pub fn well_formed(words: &[u64], at: usize, values: &[u64], octets: &[u8]) -> b
     if size - at < 64 {
         return false;
     }
-    front_formed(&words[at..], values, octets)
+    let standard = choices::reading_of((stored::family_at(words, at) % 256) as u8);
+    match standard {
+        Standard::Is(writing) => is_measured(writing, &words[at..], values, octets),
+        Standard::Refused(_) => false,
+    }
 }
 
 // Whether a packet satisfies the rule at the front of the words.
-pub fn matches(words: &[u64], values: &[u64], octets: &[u8], p: Packet) -> Matched
-    ensures { λ r. ⌜ toldMatched r ≡ matchVerdict (now (words .entry)) (now (values .entry)) (now (octets .entry)) p ⌝ }
+pub fn matches(words: &[u64], values: &[u64], octets: &[u8], packet: &[u64]) -> Matched
+    ensures { λ r. ⌜ toldMatched r ≡ matchVerdict (now (words .entry)) (now (values .entry)) (now (octets .entry)) (packetAt (now (packet .entry))) ⌝ }
 {
-    if !packets::check_packet(p) {
+    if !packets::check_words(packet) {
         return Matched::Refused(Fault {
             error: FlowSpecError::BadPacket,
         });
@@ -83,12 +65,12 @@ pub fn matches(words: &[u64], values: &[u64], octets: &[u8], p: Packet) -> Match
             error: FlowSpecError::BadRecord,
         });
     }
-    if words[53] != p.family {
+    if stored::family_at(words, 0) != packets::family_of(packet) {
         return Matched::Refused(Fault {
             error: FlowSpecError::MixedFamily(0),
         });
     }
-    let met = matching::rule_matches(words, 0, values, octets, p);
+    let met = matching::rule_matches(words, 0, values, octets, packet);
     Matched::Is(met)
 }
 
@@ -113,7 +95,7 @@ pub fn rank(
             error: FlowSpecError::BadRecord,
         });
     }
-    if words[53] != words2[53] {
+    if stored::family_at(words, 0) != stored::family_at(words2, 0) {
         return Ranked::Refused(Fault {
             error: FlowSpecError::MixedFamily(1),
         });

@@ -1,8 +1,8 @@
 -- What callers may use of the writings: each way that one goes, what a rule that is written shows and needs, that a rule's own refusals are the same in
 -- any room, how long what is written is, and that a rule put into words is written as its pieces are.
-use Prim.Native.Nat.{ℕ, _+_, _*_, _/_, _≤_, _<_}
+use Prim.Native.Nat.{ℕ, _+_, _/_, _≤_, _<_}
 use mathlib.Core.Path.{_≡_, refl, sym, ap, _∙_}
-use mathlib.Core.Bool.{Bool, true, false, not, _||_}
+use mathlib.Core.Bool.{not}
 use mathlib.Core.List.{List, [], _∷_}
 use mathlib.Core.Logic.{⊎-elim}
 use native.Mathlib.Omega.{arith}
@@ -24,10 +24,10 @@ use Rattle.stored.proofs.Inverse.{FitAll, put-read}
 use Rattle.measuring.specs.Bodies.{Lent, lent, bodyOctets}
 use Rattle.measuring.specs.Grounds.{bodyTaken, bodyOf}
 use Rattle.measuring.proofs.Laws.{Taken, body-needs}
-use Rattle.writing.specs.Writings.{onAccepted, ruleBody, bodyFrom, bodyIn, nlriOctets, inRoom, writtenRule, writtenFrom, writtenIn}
+use Rattle.writing.specs.Writings.{accepted, refusesRule, onAccepted, ruleBody, bodyFrom, bodyIn, nlriOctets, inRoom, writtenRule, writtenFrom, writtenIn}
 use Rattle.writing.proofs.Ways.{whole-long, in-standard}
 -- a body by its words: fewer than 64, no frame, a frame; and what a rule that has one shows
-pub use Rattle.writing.proofs.Ways.{few-words, no-frame, by-frame, Shown, shown, head-most}
+pub use Rattle.writing.proofs.Ways.{few-words, no-frame, by-frame, Shown, shown, length-most}
 
 -- ---- how long what is written is
 
@@ -144,15 +144,6 @@ module _ (w : Reading) (ws values octets : List ℕ) (s : StoredRule) (e : ruleA
       written-whole w ws values octets room (bodyOctets w l (s .pieces)) (body-as ∙ body-needs w l (s .pieces) t) h
 
 -- ---- in any room
-
-abbrev pub accepted : Answer (List ℕ) → Bool
-accepted (accepts xs) = true
-accepted (declines f) = false
-
--- "refuses by 11, 10 or 7"
-abbrev pub refusesRule : Answer (List ℕ) → Bool
-refusesRule (accepts xs) = false
-refusesRule (declines f) = eqb (f .number) 11 || (eqb (f .number) 10 || eqb (f .number) 7)
 
 -- a body is refused by one of these or not at all
 own-body : (w : Reading) (l : Lent) (ps : List Piece) → refusesRule (bodyOf w l ps) ≡ not (accepted (bodyOf w l ps))

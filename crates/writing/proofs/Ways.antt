@@ -8,7 +8,7 @@ use native.Mathlib.Omega.{arith}
 use borrow.Author.Tests.{lt-ltb, le-ltb}
 use lib.Dec.{ltb}
 use lib.ListN.{length, length-append}
-use lib.Seq.{sets, length-sets}
+use lib.Seq.{sets}
 use Rattle.ground.specs.Answers.{Refused, Answer, accepts, refuses, declines}
 use Rattle.ground.proofs.Answers.{never}
 use Rattle.ground.proofs.Cases.{by-test}
@@ -16,10 +16,10 @@ use Rattle.ground.proofs.Overlays.{sets-append}
 use Rattle.octets.specs.Lengths.{lengthOctets, lengthInto}
 use Rattle.choices.specs.declared.Reading.{Reading}
 use Rattle.choices.specs.Choices.{standardOf}
-use Rattle.stored.specs.Stored.{StoredRule, countAt, firstAt, piecesFrom, recordsFrom, isFramed, isRule, storedAt, ruleAt}
+use Rattle.stored.specs.Stored.{StoredRule, countAt, firstAt, piecesFrom, recordsFrom, isFramed, isRule, ruleAt}
 use Rattle.stored.proofs.Words.{at-outside, at-bad, at-good, framed, rule-framed, by-records, no-frame as unframed}
 use Rattle.stored.proofs.Inverse.{accepted}
-use Rattle.measuring.specs.Bodies.{Lent, lent, bodyOctets}
+use Rattle.measuring.specs.Bodies.{lent, bodyOctets}
 use Rattle.measuring.specs.Grounds.{allTaken, bodyOf, counted}
 use Rattle.measuring.proofs.Laws.{Taken, all-records, body-shows, body-bad}
 use Rattle.writing.specs.Writings.{octetsIn, onAccepted, ruleBody, bodyFrom, bodyIn, nlriOctets, inRoom, writtenFrom, writtenIn}
@@ -78,16 +78,12 @@ module _ (w : Reading) (ws values octets xs : List ℕ) where
 -- ---- the output
 
 -- a length takes two octets at most
-pub head-most : (n : ℕ) → length (lengthOctets n) ≤ 2
+pub length-most : (n : ℕ) → length (lengthOctets n) ≤ 2
 unfolding lengthOctets
-head-most n = by-test (ltb n 240) (λ e. rw e (omega arith)) (λ e. rw e (omega arith))
+length-most n = by-test (ltb n 240) (λ e. rw e (omega arith)) (λ e. rw e (omega arith))
 
 pub whole-long : (body : List ℕ) → length (nlriOctets body) ≡ length (lengthOctets (length body)) + length body
 whole-long body = length-append (lengthOctets (length body)) body
-
--- stores keep the length
-pub kept : (l : List ℕ) (at : ℕ) (xs : List ℕ) {r : List ℕ} → r ≡ sets l at xs → length r ≡ length l
-kept l at xs e = ap length e ∙ length-sets l at xs
 
 -- an answer that counts so many octets has them
 pub has-octets : (a : Answer (List ℕ)) (n : ℕ) → counted a ≡ accepts n → (a ≡ accepts (octetsIn a)) × (length (octetsIn a) ≡ n)

@@ -2,9 +2,10 @@
 -- One definition has the answer and the output: what is accepted is the octets. What a writing refuses by 11, 10 and 7 is told of the body, before
 -- any room is asked for.
 use Prim.Native.Nat.{ℕ}
+use mathlib.Core.Bool.{Bool, true, false, _||_}
 use mathlib.Core.List.{List, [], _∷_, _++_}
 use lib.ListN.{length}
-use lib.Dec.{ltb}
+use lib.Dec.{eqb, ltb}
 use Rattle.ground.specs.Answers.{Answer, accepts, refuses, declines}
 use Rattle.ground.specs.Picks.{pick}
 use Rattle.refusals.specs.Refusals.{refusal}
@@ -28,6 +29,15 @@ toldWritten (Refused f) = refusal f
 abbrev pub octetsIn : Answer (List ℕ) → List ℕ
 octetsIn (accepts xs) = xs
 octetsIn (declines f) = []
+
+abbrev pub accepted : Answer (List ℕ) → Bool
+accepted (accepts xs) = true
+accepted (declines f) = false
+
+-- "refuses by 11, 10 or 7"
+abbrev pub refusesRule : Answer (List ℕ) → Bool
+refusesRule (accepts xs) = false
+refusesRule (declines f) = eqb (f .number) 11 || (eqb (f .number) 10 || eqb (f .number) 7)
 
 -- what follows an answer that is accepted; a refusal stays
 abbrev pub onAccepted {ℓ} : {A : Type ℓ} → Answer A → (A → Answer (List ℕ)) → Answer (List ℕ)

@@ -18,8 +18,8 @@ ghost use Rattle.prefixwriting.specs.Writings.{frontOctets};
 ghost use Rattle.stored.specs.Stored.{piecesFrom};
 ghost use Rattle.listwriting.specs.Lists.{sizeIn};
 ghost use Rattle.measuring.specs.Bodies.{lent, opsOf, prefixOctets, pieceOctets, bodyOctets};
-ghost use Rattle.measuring.specs.Grounds.{insideOf, prefixTaken, pieceTaken, allTaken, counted, toldMeasured};
-ghost use Rattle.writing.specs.Writings.{toldWritten, octetsIn, nlriOctets, bodyFrom, writtenFrom, writtenIn};
+ghost use Rattle.measuring.specs.Grounds.{insideOf, prefixTaken, pieceTaken, allTaken, toldMeasured};
+ghost use Rattle.writing.specs.Writings.{toldWritten, counted, octetsIn, nlriOctets, bodyFrom, writtenFrom, writtenIn};
 use choices::Reading;
 use choices::Standard;
 use measuring::Measured;
@@ -182,7 +182,7 @@ pub fn measure(writing: Reading, words: &[u64], values: &[u64], octets: &[u8]) -
 }
 
 // How many octets the length of a body takes.
-fn head(body: usize) -> usize
+fn length_size(body: usize) -> usize
     ensures { λ r. ⌜ r ≡ length (lengthOctets body) ⌝ }
 {
     if body < 240 {
@@ -192,11 +192,11 @@ fn head(body: usize) -> usize
 }
 
 // How many octets a body of so many takes, with its length. No entry point.
-pub fn whole(body: usize) -> usize
+pub fn nlri_size(body: usize) -> usize
     requires { ⌜ body ≤ 4095 ⌝ }
     ensures { λ r. ⌜ r ≡ length (lengthOctets body) + body ⌝ }
 {
-    head(body) + body
+    length_size(body) + body
 }
 
 // A rule that was measured, where there is room: its length and its body, at the front of `out`. A caller that has written before lends the
@@ -224,7 +224,7 @@ pub fn put(
         values,
         octets,
         out,
-        head(body),
+        length_size(body),
     );
 }
 
@@ -242,7 +242,7 @@ pub fn write_from(
     let m = measure(writing, words, values, octets);
     match m {
         Measured::Body(body) => {
-            let size = whole(body);
+            let size = nlri_size(body);
             if out.len() < size {
                 return Written::Refused(Fault {
                     error: FlowSpecError::NoRoom(size),

@@ -2,6 +2,7 @@
 //! is told, what is filled, and that everything else stays as it was.
 
 use crate::lent::{Lent, Place};
+use crate::requests::hex;
 use crate::stored::{Stored, COUNT, WORDS};
 use crate::{archive, peers, refusal, Answer, Form, LONGEST_INPUT};
 use std::collections::BTreeMap;
@@ -131,21 +132,23 @@ impl Comparison {
         if found == wanted && wrong == [None; 3] {
             return true;
         }
-        let mut text = format!("differ: {form} reading of {}\n", hex(input));
         let Room {
             words,
             values,
             octets,
         } = room;
-        text += &format!("  lent: {words} words, {values} values, {octets} octets\n");
-        let lists = (self.words.list(), self.values.list(), self.octets.list());
-        text += &format!("  proved: {}\n", reading_text(found, lists));
-        let lists = (&stored.words[..], &stored.values[..], &stored.octets[..]);
-        text += &format!("  wanted: {}\n", reading_text(wanted, lists));
+        let found_lists = (self.words.list(), self.values.list(), self.octets.list());
+        let wanted_lists = (&stored.words[..], &stored.values[..], &stored.octets[..]);
+        let mut lines = vec![
+            format!("differ: {form} reading of {}", hex(input)),
+            format!("  lent: {words} words, {values} values, {octets} octets"),
+            format!("  proved: {}", reading_text(found, found_lists)),
+            format!("  wanted: {}", reading_text(wanted, wanted_lists)),
+        ];
         for (list, place) in ["words", "values", "octets"].iter().zip(wrong) {
-            text += &place.map_or(String::new(), |place| wrong_text(list, place));
+            lines.extend(place.map(|place| wrong_text(list, place)));
         }
-        self.difference(&text);
+        self.difference(&lines);
         false
     }
 
@@ -190,19 +193,20 @@ impl Comparison {
         if found == wanted && wrong.is_none() {
             return true;
         }
-        let mut text = format!(
-            "differ: {form} writing of {}\n  lent: {room} octets\n",
-            record_text(&record.words, &record.values, &record.octets)
-        );
-        text += &format!("  proved: {}\n", writing_text(found, self.output.list()));
-        text += &format!("  wanted: {}\n", writing_text(wanted, &self.written));
-        text += &wrong.map_or(String::new(), |place| wrong_text("output", place));
-        self.difference(&text);
+        let asked = record_text(&record.words, &record.values, &record.octets);
+        let mut lines = vec![
+            format!("differ: {form} writing of {asked}"),
+            format!("  lent: {room} octets"),
+            format!("  proved: {}", writing_text(found, self.output.list())),
+            format!("  wanted: {}", writing_text(wanted, &self.written)),
+        ];
+        lines.extend(wrong.map(|place| wrong_text("output", place)));
+        self.difference(&lines);
         false
     }
 
-    pub(crate) fn difference(&mut self, text: &str) {
-        print!("{text}");
+    pub(crate) fn difference(&mut self, lines: &[String]) {
+        println!("{}", lines.join("\n"));
         self.differ += 1;
         if self.differ == ENOUGH {
             println!("{ENOUGH} are enough");
@@ -295,14 +299,7 @@ pub(crate) fn record_text(words: &[u64], values: &[u64], octets: &[u8]) -> Strin
 }
 
 fn wrong_text(list: &str, place: isize) -> String {
-    format!("  {list}: place {place} is not as it must be\n")
-}
-
-fn hex(octets: &[u8]) -> String {
-    if octets.is_empty() {
-        return "-".to_string();
-    }
-    octets.iter().map(|octet| format!("{octet:02X}")).collect()
+    format!("  {list}: place {place} is not as it must be")
 }
 
 /// At most so many of the list.

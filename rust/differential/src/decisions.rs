@@ -3,9 +3,9 @@
 //! choosers that are timed beside the proved one are held to the same answers.
 
 use crate::compare::{record_text, refusal_text, Comparison};
-use crate::random::Random;
 use crate::stored::{Stored, FAMILY, WORDS};
 use crate::{archive, flows, packets, peers, records, tables, Answer};
+use inputs::Random;
 use standard::Flow;
 
 /// In how many ways of being made the random cases came: their number by the way's name.
@@ -56,15 +56,15 @@ impl Comparison {
         if found == wanted && timed.iter().all(|&answer| answer == wanted) {
             return;
         }
-        let mut text = format!("differ: {what}\n");
+        let mut lines = vec![format!("differ: {what}")];
         for record in records {
             for words in record.words.chunks(WORDS) {
-                text += &format!("  rule: {}\n", record_text(words, &[], &[]));
+                lines.push(format!("  rule: {}", record_text(words, &[], &[])));
             }
             let lists = record_text(&[], &record.values, &record.octets);
-            text += &format!("  lists: {lists}\n");
+            lines.push(format!("  lists: {lists}"));
         }
-        text += &format!("  packet: {packet:X?}\n");
+        lines.push(format!("  packet: {packet:X?}"));
         let timed = timed.iter().map(|answer| ("timed", answer));
         for (whose, answer) in [("proved", &found), ("wanted", &wanted)]
             .into_iter()
@@ -74,9 +74,9 @@ impl Comparison {
                 0 => format!("({}, {})", answer.first, answer.second),
                 _ => refusal_text(*answer),
             };
-            text += &format!("  {whose}: {told}\n");
+            lines.push(format!("  {whose}: {told}"));
         }
-        self.difference(&text);
+        self.difference(&lines);
     }
 }
 

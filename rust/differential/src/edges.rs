@@ -1,10 +1,9 @@
 //! Matches, rankings and choices that are made by rule: those that every run has.
 
-use crate::inputs::{framed, list_of, octets};
 use crate::packets;
-use crate::random::Random;
 use crate::stored::{Stored, COUNT, FAMILY, IPV4, IPV4_OFFSET, IPV6, IPV6_OFFSET, WORDS};
 use crate::{flows, records, tables, LONGEST_BODY, MOST_OPERATORS, MOST_RULES};
+use inputs::{framed, list_of, octets, Random};
 use standard::{Address, Component, Content, Flow, Operator, Packet, Prefix, Rule};
 
 /// Whoever is handed a rule and the words of a packet, or a table and those.

@@ -2,9 +2,9 @@
 //! have, and rules that are like another but for one thing.
 
 use crate::packets::most;
-use crate::random::Random;
 use crate::records;
 use crate::stored::Stored;
+use inputs::Random;
 use standard::{Address, Component, Content, Flow, Operator, Prefix, Rule};
 
 const END: u8 = 0x80;

@@ -2,11 +2,12 @@
 //!
 //! `archive` calls the proved code by the crate over it, `peers` has what must come back: by the
 //! original Rust (`oracle`) for the plain reading and writing, by `standard` for the others.
-//! `inputs` and `records` make what readings and writings are asked, `compare` asks it and compares;
-//! `edges`, `flows`, `packets` and `tables` make what matching, ranking and choosing are asked,
-//! `decisions` asks it and compares. `wordwise` is a chooser to be timed. A rule crosses the
-//! surface as words; `stored` knows that form, `packets` that of a packet. `requests` and `lines`
-//! have the texts of stored answers, and `samples` those that are stored. `src/bin` has the programs.
+//! The crate `inputs` and `records` make what readings and writings are asked, `compare` asks it and
+//! compares; `edges`, `flows`, `packets` and `tables` make what matching, ranking and choosing are
+//! asked, `decisions` asks it and compares. `wordwise` is a chooser to be timed. A rule crosses the
+//! surface as words; `stored` knows that form, `packets` that of a packet, and `neutral` that of the
+//! crate `protocol`, by which `requests` has the texts of stored answers. `samples` has
+//! those that are stored. `src/bin` has the programs.
 //! Without the feature `archive` nothing of the proved code is linked, nor compared with.
 
 #[cfg(feature = "archive")]
@@ -17,12 +18,10 @@ pub mod compare;
 pub mod decisions;
 pub mod edges;
 pub mod flows;
-pub mod inputs;
 pub mod lent;
-pub mod lines;
+pub mod neutral;
 pub mod packets;
 pub mod peers;
-pub mod random;
 pub mod records;
 pub mod requests;
 pub mod samples;
@@ -30,23 +29,7 @@ pub mod stored;
 pub mod tables;
 pub mod wordwise;
 
-/// Which reading and writing is meant.
-#[derive(Debug, Clone, Copy, PartialEq, Eq)]
-pub enum Form {
-    /// As the original Rust does it.
-    Plain,
-    /// By the RFCs, with the family that is asked for: 4, 6, or another, which is refused.
-    Standard(u8),
-}
-
-impl std::fmt::Display for Form {
-    fn fmt(&self, f: &mut std::fmt::Formatter<'_>) -> std::fmt::Result {
-        match self {
-            Form::Plain => write!(f, "plain"),
-            Form::Standard(family) => write!(f, "standard (family {family})"),
-        }
-    }
-}
+pub use inputs::{Form, LONGEST_BODY, LONGEST_INPUT};
 
 /// What a call answers: status 0 with what was found, or a refusal's number with what it carries.
 #[derive(Debug, Clone, Copy, PartialEq, Eq)]
@@ -110,10 +93,6 @@ impl Answer {
     }
 }
 
-/// The longest input of the plain reading: two octets of length and the longest body.
-pub const LONGEST_INPUT: usize = 4097;
-/// The longest body.
-pub const LONGEST_BODY: usize = 4095;
 /// The most components and operators that a record may have.
 pub const MOST_COMPONENTS: usize = 13;
 pub const MOST_OPERATORS: usize = 2047;

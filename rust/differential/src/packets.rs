@@ -4,10 +4,11 @@
 //! fragment bits; then what may be absent, each behind a word that is 1 where it is there and else 0:
 //! source and destination port, ICMP type and code, TCP flags, flow label; and a last word of 0.
 
-use crate::random::Random;
+use crate::neutral;
+use inputs::Random;
 use standard::{Address, Component, Content, Flow, Operator, Packet, Prefix, Rule};
 
-pub const WORDS: usize = 20;
+pub const WORDS: usize = protocol::PACKET;
 /// The words that say what is there, and the last.
 pub const PRESENT: [usize; 4] = [9, 12, 15, 17];
 pub const LAST: usize = 19;
@@ -29,19 +30,7 @@ pub const MOST: [(usize, u64); 11] = [
 
 /// The words of a packet. Behind a word that says that something is absent stands 0.
 pub fn words(packet: &Packet) -> [u64; WORDS] {
-    let pair = |pair: Option<(u64, u64)>| pair.map_or([0; 3], |(one, other)| [1, one, other]);
-    let field = |field: Option<u64>| field.map_or([0; 2], |number| [1, number]);
-    let halves = |address: u128| [(address >> 64) as u64, address as u64];
-    let mut words = [0; WORDS];
-    words[0] = packet.family;
-    words[1..3].copy_from_slice(&halves(packet.destination));
-    words[3..5].copy_from_slice(&halves(packet.source));
-    words[5..9].copy_from_slice(&[packet.protocol, packet.length, packet.dscp, packet.fragment]);
-    words[9..12].copy_from_slice(&pair(packet.ports));
-    words[12..15].copy_from_slice(&pair(packet.icmp));
-    words[15..17].copy_from_slice(&field(packet.flags));
-    words[17..19].copy_from_slice(&field(packet.label));
-    words
+    neutral::packet(packet).words()
 }
 
 /// The packet that words lend; where they lend none, one of no family, which is out of range.

@@ -1,10 +1,9 @@
 //! Records for the writings: those made by rule, which every run has, and random ones. Many are
 //! outside what a writing takes; the peers know which.
 
-use crate::inputs::list_of;
-use crate::random::Random;
 use crate::stored::{Stored, COUNT, FAMILY, FIRST, IPV4, IPV4_OFFSET, IPV6, IPV6_OFFSET, WORDS};
 use crate::{Form, LONGEST_BODY, MOST_COMPONENTS, MOST_OPERATORS};
+use inputs::{list_of, Random};
 
 /// Whoever is handed the records, one after another.
 pub type Take<'a> = &'a mut dyn FnMut(&Stored);
@@ -379,8 +378,7 @@ fn good_list(random: &mut Random, kind: u8, most: usize, record: &mut Stored) {
         let fits = u64::MAX >> (64 - (8u32 << (octet >> 4 & 3)));
         (octet, random.value() & fits)
     };
-    let operators: Vec<(u8, u64)> = (0..count).map(operator).collect();
-    record.push_list(kind, operators.into_iter());
+    record.push_list(kind, (0..count).map(operator));
 }
 
 /// Any order, repeats, every form, lists that are empty, unclosed, closed early or shared, values
@@ -424,8 +422,12 @@ pub fn damage(random: &mut Random, record: &mut Stored) {
             2 => record.words[word] = random.pick(&PLACES),
             3 => record.words[word] = random.below(300) as u64,
             4 => damage_operator(random, record),
-            5 => drop(record.values.pop()),
-            6 => drop(record.octets.pop()),
+            5 => {
+                record.values.pop();
+            }
+            6 => {
+                record.octets.pop();
+            }
             7 => {
                 let (one, other) = (random.below(used / 4), random.below(used / 4));
                 (0..4).for_each(|at| record.words.swap(4 * one + at, 4 * other + at));

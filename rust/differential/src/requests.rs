@@ -1,26 +1,13 @@
 //! Requests of the standard calls as lines of text, and what the crate `standard` answers.
 //!
-//! A request is the call's name and its fields, a TAB between them; `tools/answer` takes the same.
-//! Octets are upper-case hex, `-` for none.
-//!
-//! | request | answer |
-//! |---|---|
-//! | `std_read4 HEX V,O` (places lent in the lists of values and octets), `std_read6` | `ok USED OPERATORS RULE` |
-//! | `std_write FAMILY COMPONENTS VALUES OCTETS ROOM` | `ok HEX` |
-//! | `match FAMILY HEX PACKET` | `yes`, `no` |
-//! | `rank FAMILY HEX HEX` | `first`, `second`, `equal` |
-//! | `choose PACKET RULES` | `ok PLACE`, `ok none` |
-//!
-//! A refusal is `err`, its number and, joined by commas, what it carries. A rule is `-` where it has
-//! no components, else components joined by `;`: `TYPE:4/LENGTH/HEX`, `TYPE:6/LENGTH/HEX`, with an
-//! offset `TYPE:4o/OFFSET/LENGTH/HEX` or `TYPE:6o/OFFSET/LENGTH/HEX`, or a list,
-//! `TYPE:OCTET=VALUE,OCTET=VALUE`; in a writing a list is `TYPE:@START+COUNT`. Rules to choose from
-//! are `FAMILY=RULE`, joined by `&`, `.` for none. A packet is
-//! `family|source|destination|protocol|length|dscp|fragment|ports|icmp|flags|label`.
+//! The crate `protocol` says what the lines are; `tools/answer` takes the same.
 
 use crate::stored::{Stored, COUNT, FAMILY, IPV4, IPV4_OFFSET, IPV6};
-use crate::{peers, refusal, Answer, Form};
-use standard::{Address, Component, Content, Flow, Packet, Prefix, Refusal, Rule};
+use crate::{neutral, peers, refusal, Answer, Form};
+use protocol::{
+    put_octets, put_operators, put_refusal, put_rule, put_span, put_values, text, words,
+};
+use standard::{Flow, Packet, Refusal, Rule};
 use std::cmp::Ordering;
 use std::fmt::{self, Display, Formatter};
 
@@ -73,7 +60,7 @@ impl Display for Request {
             } => vec![
                 format!("std_write\t{family}"),
                 components_text(&record.words),
-                joined(record.values.iter(), ","),
+                text(|out| put_values(&record.values, out)),
                 hex(&record.octets),
                 room.to_string(),
             ],
@@ -174,87 +161,30 @@ pub fn rank(family: u8, one: &[u8], other: &[u8]) -> Result<Ordering, Refusal> {
 
 /// A refusal with what it carries.
 fn refused(answer: Answer) -> String {
-    let carried: Vec<String> = answer.carried().iter().map(u64::to_string).collect();
-    match carried[..] {
-        [] => format!("err {}", answer.status),
-        _ => format!("err {} {}", answer.status, carried.join(",")),
-    }
+    text(|out| put_refusal(answer.status, answer.carried(), out))
 }
 
 pub fn hex(octets: &[u8]) -> String {
-    match octets {
-        [] => "-".to_string(),
-        _ => octets.iter().map(|octet| format!("{octet:02X}")).collect(),
-    }
-}
-
-/// What is listed, `-` where there is nothing.
-fn joined<T: Display>(list: impl Iterator<Item = T>, by: &str) -> String {
-    let texts: Vec<String> = list.map(|one| one.to_string()).collect();
-    match texts.is_empty() {
-        true => "-".to_string(),
-        false => texts.join(by),
-    }
+    text(|out| put_octets(octets, out))
 }
 
 fn flows_text(flows: &[Flow]) -> String {
     let flow = |flow: &Flow| format!("{}={}", flow.family, rule_text(&flow.rule));
     match flows {
         [] => ".".to_string(),
-        _ => joined(flows.iter().map(flow), "&"),
+        _ => flows.iter().map(flow).collect::<Vec<String>>().join("&"),
     }
 }
 
 pub fn rule_text(rule: &Rule) -> String {
-    let component = |Component { kind, content }: &Component| match content {
-        Content::Prefix(prefix) => format!("{kind}:{}", prefix_text(prefix)),
-        Content::List(list) => {
-            let operators = list.iter();
-            let operators = operators.map(|one| format!("{:02X}={}", one.octet, one.value));
-            let operators: Vec<String> = operators.collect();
-            format!("{kind}:{}", operators.join(","))
-        }
-    };
-    joined(rule.components.iter().map(component), ";")
-}
-
-fn prefix_text(prefix: &Prefix) -> String {
-    let Prefix {
-        address,
-        length,
-        offset,
-    } = prefix;
-    let (family, address) = match address {
-        Address::Ipv4(address) => (4, format!("{address:08X}")),
-        Address::Ipv6(address) => (6, format!("{address:032X}")),
-    };
-    match offset {
-        None => format!("{family}/{length}/{address}"),
-        Some(offset) => format!("{family}o/{offset}/{length}/{address}"),
-    }
+    let components = rule.components.iter().map(neutral::component);
+    text(|out| put_rule(components, put_operators, out))
 }
 
 /// The components that words name, as a writing is asked for them.
 fn components_text(words: &[u64]) -> String {
     let groups = words[..COUNT].chunks(4).take(words[COUNT] as usize);
-    let text = |group: &[u64]| {
-        let (kind, form) = (group[0] % 16, group[0] / 16);
-        if ![1, 2].contains(&kind) {
-            return format!("{kind}:@{}+{}", group[1], group[2]);
-        }
-        let address = match form {
-            IPV4 | IPV4_OFFSET => Address::Ipv4(group[2] as u32),
-            _ => Address::Ipv6(u128::from(group[2]) << 64 | u128::from(group[3])),
-        };
-        let offset = (group[1] / 256) as u8;
-        let prefix = Prefix {
-            address,
-            length: (group[1] % 256) as u8,
-            offset: Some(offset).filter(|_| ![IPV4, IPV6].contains(&form)),
-        };
-        format!("{kind}:{}", prefix_text(&prefix))
-    };
-    joined(groups.map(text), ";")
+    text(|out| put_rule(groups.map(words::component), put_span, out))
 }
 
 /// Whether a text can say these words: at most 13 components of known types and forms, the rule's
@@ -276,26 +206,5 @@ pub fn can_be_said(family: u8, words: &[u64]) -> bool {
 }
 
 fn packet_text(packet: &Packet) -> String {
-    let address = |address: u128| match packet.family {
-        4 => format!("{address:08X}"),
-        _ => format!("{address:032X}"),
-    };
-    let pair = |pair: Option<(u64, u64)>| {
-        pair.map_or("-".to_string(), |(one, other)| format!("{one},{other}"))
-    };
-    let field = |field: Option<u64>| field.map_or("-".to_string(), |number| number.to_string());
-    let fields = [
-        packet.family.to_string(),
-        address(packet.source),
-        address(packet.destination),
-        packet.protocol.to_string(),
-        packet.length.to_string(),
-        packet.dscp.to_string(),
-        packet.fragment.to_string(),
-        pair(packet.ports),
-        pair(packet.icmp),
-        field(packet.flags),
-        field(packet.label),
-    ];
-    fields.join("|")
+    text(|out| neutral::packet(packet).put(out))
 }

@@ -1,11 +1,10 @@
 //! The requests whose answers are stored in `tests/standard-answers`: document 01's cases, the RFCs'
 //! worked examples, edges of each call, and random ones. The same in every run.
 
-use crate::inputs::{self, framed, list_of, octets, FIXED};
-use crate::random::Random;
 use crate::requests::{can_be_said, Request};
 use crate::stored::{Stored, FAMILY, FIRST};
 use crate::{flows, packets, records, Form, LONGEST_BODY, LONGEST_INPUT, MOST_COMPONENTS};
+use inputs::{framed, list_of, octets, Random, FIXED};
 use standard::{Address, Component, Content, Flow, Operator, Packet, Rule};
 
 const FAMILIES: [u8; 2] = [4, 6];

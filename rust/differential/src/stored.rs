@@ -6,25 +6,20 @@
 //! for IPv4. A list: type, start (counted from the rule's first place), count, 0. An unused
 //! group is 0.
 
-use crate::{MOST_COMPONENTS, MOST_OPERATORS};
-use ipnet::{IpNet, Ipv4Net, Ipv6Net};
-use oracle::flowspec::{FlowSpecComponent, FlowSpecNlri};
-use oracle::text::{bitmask_record, numeric_record};
-use oracle::NetworkPrefix;
-use standard::{Address, Component, Content, Flow, Operator, Rule};
-use std::net::IpAddr;
+use crate::{neutral, MOST_COMPONENTS, MOST_OPERATORS};
+use oracle::flowspec::FlowSpecNlri;
+use oracle::records;
+use protocol::{words, Address, Component, Content, Operator, Prefix};
+use standard::{Flow, Rule};
+use std::ops::Range;
+
+pub use protocol::words::{IPV4, IPV4_OFFSET, IPV6, IPV6_OFFSET};
 
 pub const WORDS: usize = 64;
 /// Where the words after the components stand.
 pub const COUNT: usize = 4 * MOST_COMPONENTS;
 pub const FAMILY: usize = COUNT + 1;
 pub const FIRST: usize = COUNT + 2;
-
-/// The forms of a prefix.
-pub const IPV4: u64 = 0;
-pub const IPV6: u64 = 1;
-pub const IPV4_OFFSET: u64 = 2;
-pub const IPV6_OFFSET: u64 = 3;
 
 /// A rule's words with the lists that they speak of, which need not be equally long.
 #[derive(Debug, Clone, PartialEq, Eq)]
@@ -89,45 +84,27 @@ impl Stored {
         self.push([u64::from(kind), start as u64 - first, count as u64, 0]);
     }
 
-    /// Puts a rule of the original Rust in place of what is here.
-    pub fn put_original(&mut self, rule: &FlowSpecNlri) {
-        use FlowSpecComponent::*;
-        self.clear(0);
-        for component in &rule.components {
-            let kind = component.component_type();
-            match component {
-                DestinationPrefix(prefix) | SourcePrefix(prefix) => {
-                    self.push_net(kind, prefix, None);
-                }
-                DestinationIpv6Prefix { offset, prefix } | SourceIpv6Prefix { offset, prefix } => {
-                    self.push_net(kind, prefix, Some(*offset));
-                }
-                IpProtocol(list)
-                | Port(list)
-                | DestinationPort(list)
-                | SourcePort(list)
-                | IcmpType(list)
-                | IcmpCode(list)
-                | PacketLength(list)
-                | Dscp(list)
-                | FlowLabel(list) => {
-                    self.push_list(kind, list.iter().map(|one| (one.to_byte(), one.value)));
-                }
-                TcpFlags(list) | Fragment(list) => {
-                    self.push_list(kind, list.iter().map(|one| (one.to_byte(), one.bitmask)));
-                }
+    /// Adds a component.
+    fn push_component(&mut self, component: Component<impl Iterator<Item = Operator>>) {
+        match component.content {
+            Content::Prefix(prefix) => {
+                let address = match prefix.address {
+                    Address::Ipv4(address) => address.into(),
+                    Address::Ipv6(address) => address,
+                };
+                let (form, offset) = (words::form(&prefix), prefix.offset.unwrap_or(0));
+                self.push_prefix(component.kind, form, prefix.length, offset, address);
             }
+            Content::List(list) => self.push_list(component.kind, list),
         }
     }
 
-    fn push_net(&mut self, kind: u8, prefix: &NetworkPrefix, offset: Option<u8>) {
-        let (form, address) = match prefix.prefix.addr() {
-            IpAddr::V4(address) => (IPV4, u128::from(u32::from(address))),
-            IpAddr::V6(address) => (IPV6, u128::from(address)),
-        };
-        let form = form + if offset.is_some() { 2 } else { 0 };
-        let length = prefix.prefix.prefix_len();
-        self.push_prefix(kind, form, length, offset.unwrap_or(0), address);
+    /// Puts a rule of the original Rust in place of what is here.
+    pub fn put_original(&mut self, rule: &FlowSpecNlri) {
+        self.clear(0);
+        for component in &rule.components {
+            self.push_component(records::component(component));
+        }
     }
 
     /// Puts a rule of the crate `standard` in place of what is here.
@@ -138,21 +115,8 @@ impl Stored {
 
     /// Adds the components of a rule.
     pub fn push_rule(&mut self, rule: &Rule) {
-        for Component { kind, content } in &rule.components {
-            match content {
-                Content::Prefix(prefix) => {
-                    let (form, address) = match prefix.address {
-                        Address::Ipv4(address) => (IPV4, u128::from(address)),
-                        Address::Ipv6(address) => (IPV6, address),
-                    };
-                    let form = form + if prefix.offset.is_some() { 2 } else { 0 };
-                    let offset = prefix.offset.unwrap_or(0);
-                    self.push_prefix(*kind, form, prefix.length, offset, address);
-                }
-                Content::List(list) => {
-                    self.push_list(*kind, list.iter().map(|one| (one.octet, one.value)));
-                }
-            }
+        for component in &rule.components {
+            self.push_component(neutral::component(component));
         }
     }
 }
@@ -175,18 +139,8 @@ pub fn flow(words: &[u64], values: &[u64], octets: &[u8]) -> Flow {
     }
 }
 
-/// A component that words name.
-#[derive(Debug, Clone, PartialEq, Eq)]
-pub enum Part {
-    Prefix {
-        kind: u8,
-        length: u8,
-        offset: Option<u8>,
-        address: Address,
-    },
-    /// The operators at these places of the lent lists.
-    List { kind: u8, from: usize, count: usize },
-}
+/// A component that words name, a list by its places in the lent lists.
+pub type Part = Component<Range<usize>>;
 
 /// The components that words name in lists of so many places. Nothing where they are a BadRecord
 /// of every writing: too few, no stored form, over a maximum, a prefix length over its address's, or
@@ -205,7 +159,7 @@ pub fn parts(words: &[u64], places: usize) -> Option<Vec<Part>> {
     let parts = groups.map(|group| part(group, words[FIRST], places));
     let parts: Vec<Part> = parts.collect::<Option<_>>()?;
     // A count is at most `places`, so the sum is within a word.
-    let operators: usize = parts.iter().map(Part::operators).sum();
+    let operators: usize = parts.iter().map(operators_in).sum();
     Some(parts).filter(|_| operators <= MOST_OPERATORS)
 }
 
@@ -232,121 +186,57 @@ fn prefix(kind: u8, form: u64, range: u64, (high, low): (u64, u64)) -> Option<Pa
         IPV6 | IPV6_OFFSET => (Address::Ipv6(u128::from(high) << 64 | u128::from(low)), 128),
         _ => return None,
     };
-    Some(Part::Prefix {
-        kind,
+    let content = Content::Prefix(Prefix {
+        address,
         length,
         offset,
-        address,
-    })
-    .filter(|_| length <= longest)
+    });
+    Some(Component { kind, content }).filter(|_| length <= longest)
 }
 
 fn list(kind: u8, start: u64, count: u64, first: u64, places: usize) -> Option<Part> {
-    if count == 0 {
-        return Some(Part::List {
-            kind,
-            from: 0,
-            count: 0,
-        });
+    let mut named = 0..0;
+    if count != 0 {
+        let from = first.checked_add(start)?;
+        let end = from.checked_add(count)?;
+        if end > places as u64 {
+            return None;
+        }
+        named = from as usize..end as usize;
     }
-    let from = first.checked_add(start)?;
-    let end = from.checked_add(count)?;
-    let (from, count) = (from as usize, count as usize);
-    Some(Part::List { kind, from, count }).filter(|_| end <= places as u64)
+    let content = Content::List(named);
+    Some(Component { kind, content })
 }
 
-impl Part {
-    fn operators(&self) -> usize {
-        match self {
-            Part::Prefix { .. } => 0,
-            Part::List { count, .. } => *count,
-        }
+fn operators_in(part: &Part) -> usize {
+    match &part.content {
+        Content::Prefix(_) => 0,
+        Content::List(places) => places.len(),
     }
+}
+
+/// A component with the operators at its places.
+fn filled<'a>(
+    part: &Part,
+    values: &'a [u64],
+    octets: &'a [u8],
+) -> Component<impl Iterator<Item = Operator> + 'a> {
+    part.clone().with_list(|places| {
+        let octets = octets[places.clone()].iter().copied();
+        octets.zip(values[places].iter().copied())
+    })
 }
 
 /// The rule of the original Rust that has these components.
 pub fn original(parts: &[Part], values: &[u64], octets: &[u8]) -> FlowSpecNlri {
-    let component = |part: &Part| match *part {
-        Part::Prefix {
-            kind,
-            length,
-            offset,
-            address,
-        } => {
-            let net = match address {
-                Address::Ipv4(address) => Ipv4Net::new(address.into(), length).map(IpNet::V4),
-                Address::Ipv6(address) => Ipv6Net::new(address.into(), length).map(IpNet::V6),
-            };
-            let prefix = NetworkPrefix::new(net.expect("the length was tested"), None);
-            match (kind, offset) {
-                (1, None) => FlowSpecComponent::DestinationPrefix(prefix),
-                (1, Some(offset)) => FlowSpecComponent::DestinationIpv6Prefix { offset, prefix },
-                (_, None) => FlowSpecComponent::SourcePrefix(prefix),
-                (_, Some(offset)) => FlowSpecComponent::SourceIpv6Prefix { offset, prefix },
-            }
-        }
-        Part::List { kind, from, count } => original_list(
-            kind,
-            &values[from..from + count],
-            &octets[from..from + count],
-        ),
-    };
-    FlowSpecNlri::new(parts.iter().map(component).collect())
-}
-
-fn original_list(kind: u8, values: &[u64], octets: &[u8]) -> FlowSpecComponent {
-    let pairs = || octets.iter().zip(values);
-    let numeric = || {
-        pairs()
-            .map(|(&octet, &value)| numeric_record(octet, value))
-            .collect()
-    };
-    let bitmask = || {
-        pairs()
-            .map(|(&octet, &value)| bitmask_record(octet, value))
-            .collect()
-    };
-    match kind {
-        3 => FlowSpecComponent::IpProtocol(numeric()),
-        4 => FlowSpecComponent::Port(numeric()),
-        5 => FlowSpecComponent::DestinationPort(numeric()),
-        6 => FlowSpecComponent::SourcePort(numeric()),
-        7 => FlowSpecComponent::IcmpType(numeric()),
-        8 => FlowSpecComponent::IcmpCode(numeric()),
-        9 => FlowSpecComponent::TcpFlags(bitmask()),
-        10 => FlowSpecComponent::PacketLength(numeric()),
-        11 => FlowSpecComponent::Dscp(numeric()),
-        12 => FlowSpecComponent::Fragment(bitmask()),
-        _ => FlowSpecComponent::FlowLabel(numeric()),
-    }
+    let component = |part| records::original(filled(part, values, octets));
+    let components = parts.iter().map(component).collect::<Option<_>>();
+    FlowSpecNlri::new(components.expect("types and lengths were tested"))
 }
 
 /// The rule with these components in the form that the RFCs' writing takes.
 pub fn standard_rule(parts: &[Part], values: &[u64], octets: &[u8]) -> Rule {
-    let component = |part: &Part| match *part {
-        Part::Prefix {
-            kind,
-            length,
-            offset,
-            address,
-        } => Component {
-            kind,
-            content: Content::Prefix(standard::Prefix {
-                address,
-                length,
-                offset,
-            }),
-        },
-        Part::List { kind, from, count } => {
-            let places = from..from + count;
-            let pairs = octets[places.clone()].iter().zip(&values[places]);
-            let operators = pairs.map(|(&octet, &value)| Operator { octet, value });
-            Component {
-                kind,
-                content: Content::List(operators.collect()),
-            }
-        }
-    };
+    let component = |part| neutral::standard(filled(part, values, octets));
     Rule {
         components: parts.iter().map(component).collect(),
     }

@@ -1,8 +1,8 @@
 //! Tables of rules to choose from, and packets for them.
 
-use crate::random::Random;
 use crate::stored::{Stored, FAMILY, FIRST, WORDS};
 use crate::{flows, packets, records, MOST_RULES};
+use inputs::Random;
 use standard::Flow;
 
 /// Adds a rule with its operators to a table, which has them all in one pair of lists.

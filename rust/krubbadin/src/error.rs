@@ -80,8 +80,7 @@ pub enum EncodingError {
         /// The largest that the field holds.
         max: usize,
     },
-    /// There is no wire format for it: a rule of more than 13 components or 2,047 operators, or an operator whose width is not 1, 2, 4 or
-    /// 8.
+    /// There is no wire format for it: a rule of more than 13 components, or an operator whose width is not 1, 2, 4 or 8.
     Unencodable {
         /// The field.
         field: &'static str,
@@ -114,7 +113,7 @@ impl Error for EncodingError {}
 /// let refusal = read(Family::Ipv4, &[0x04, 0x0D, 0x81, 0x00, 0x0E]).unwrap_err();
 /// assert_eq!(refusal, Refusal::InvalidComponentType(13));
 /// assert_eq!(refusal.number(), 3);
-/// assert_eq!(refusal.to_string(), "no component has type 13");
+/// assert_eq!(refusal.to_string(), "type 13, the flow label, is not in IPv4 (RFC 8956)");
 /// ```
 #[derive(Debug, Clone, Copy, PartialEq, Eq, Hash)]
 #[non_exhaustive]
@@ -142,13 +141,13 @@ pub enum Refusal {
     InputTooLong(usize),
     /// 9: this many places or octets are needed and fewer were lent.
     NoRoom(usize),
-    /// 10: what was lent is no rule, or none that the standard knows in its family.
+    /// 10: what was lent is no rule, or none that the standard knows in its family. [`why`](crate::why()) says the ground.
     BadRecord,
     /// 11: this is no family; 4 and 6 are.
     BadFamily(u8),
     /// 12: this many rules were given, and 64 is the most.
     TooManyRules(usize),
-    /// 13: a field of the packet is out of range.
+    /// 13: a field of the packet is out of range. [`Packet::why`](crate::Packet::why) says which.
     BadPacket,
     /// 14: the rule at this place is of another family than the packet, or than the rule that it is compared with.
     MixedFamily(usize),
@@ -221,13 +220,23 @@ impl Display for Refusal {
         match self {
             Refusal::InsufficientData => write!(f, "octets are missing"),
             Refusal::InvalidComponentOrder {
+                expected_greater_than: 0,
+                found,
+            } => write!(f, "the first component has type {found}, and types are 1 to 13"),
+            Refusal::InvalidComponentOrder {
                 expected_greater_than,
                 found,
             } => write!(
                 f,
                 "a component of type {found} follows type {expected_greater_than}, and types must rise"
             ),
-            Refusal::InvalidComponentType(found) => write!(f, "no component has type {found}"),
+            // Every other reading has it.
+            Refusal::InvalidComponentType(13) => {
+                write!(f, "type 13, the flow label, is not in IPv4 (RFC 8956)")
+            }
+            Refusal::InvalidComponentType(found) => {
+                write!(f, "no component has type {found}: types are 1 to 13")
+            }
             Refusal::InvalidPrefix => write!(f, "a prefix's length or offset is out of range"),
             Refusal::InvalidOperator(octet) => {
                 write!(f, "a reserved bit is set in operator octet 0x{octet:02X}")

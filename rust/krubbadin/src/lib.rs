@@ -42,6 +42,23 @@
 //! # }
 //! ```
 //!
+//! # What is wrong
+//!
+//! Of a rule that is refused as [`BadRecord`](Refusal::BadRecord) [`why`] says the ground, of a packet that is refused as
+//! [`BadPacket`](Refusal::BadPacket) [`Packet::why`] says the field. A rule prints in one line:
+//!
+//! ```
+//! use krubbadin::{parse_flowspec_nlri, why, Family};
+//!
+//! # fn main() -> Result<(), krubbadin::FlowSpecError> {
+//! let rule = parse_flowspec_nlri(&[0x07, 0x01, 0x08, 0x0A, 0x0D, 0x91, 0x00, 0x05])?;
+//! assert_eq!(rule.to_string(), "destination 10.0.0.0/8; flow label =5");
+//! let ground = why(Family::Ipv4, &rule).unwrap();
+//! assert_eq!(ground.to_string(), "component 1 has type 13, the flow label, which is not in IPv4 (RFC 8956)");
+//! # Ok(())
+//! # }
+//! ```
+//!
 //! # Without a heap
 //!
 //! The types above own what they hold. [`surface`] has the archive's calls themselves, on slices that the caller lends.
@@ -57,6 +74,8 @@ mod rules;
 mod standard;
 mod stored;
 pub mod surface;
+mod text;
+mod why;
 
 pub use error::{EncodingError, FlowSpecError, Refusal};
 pub use nlri::{encode_flowspec_nlri, parse_flowspec_nlri};
@@ -64,3 +83,4 @@ pub use operators::{BitmaskOperator, NumericOperator};
 pub use packet::Packet;
 pub use rules::{FlowSpecComponent, FlowSpecNlri, NetworkPrefix};
 pub use standard::{choose, matches, precedes, rank, read, write, Family, Table};
+pub use why::{why, Field, Ground};

@@ -1,9 +1,10 @@
 //! Reading and writing as the original does it.
 
 use crate::error::{EncodingError, FlowSpecError, Refusal};
-use crate::rules::FlowSpecNlri;
-use crate::stored::{list_of, operators_in, read_rule, write_rule, COMPONENTS, LONGEST};
-use crate::surface::OPERATORS;
+use crate::rules::{FlowSpecComponent, FlowSpecNlri, NetworkPrefix};
+use crate::stored::{list_of, read_rule, write_rule, LONGEST};
+use crate::why::why_owned;
+use ipnet::IpNet;
 
 /// The longest body.
 const LONGEST_BODY: usize = 4095;
@@ -40,8 +41,8 @@ pub fn parse_flowspec_nlri(data: &[u8]) -> Result<FlowSpecNlri, FlowSpecError> {
 ///
 /// # Errors
 ///
-/// `ValueTooLarge` if the body has more than 4,095 octets. `Unencodable` if the rule has more than 13 components or 2,047 operators, or
-/// an operator whose width is not 1, 2, 4 or 8; the original writes some of these as octets that do not read back.
+/// `ValueTooLarge` if the body has more than 4,095 octets, as the original has it. `Unencodable` if a shorter one is of more than 13
+/// components, or has an operator whose width is not 1, 2, 4 or 8: the original writes these as octets that do not read back.
 ///
 /// ```
 /// use krubbadin::{encode_flowspec_nlri, FlowSpecComponent, FlowSpecNlri, NumericOperator};
@@ -50,34 +51,39 @@ pub fn parse_flowspec_nlri(data: &[u8]) -> Result<FlowSpecNlri, FlowSpecError> {
 /// assert_eq!(encode_flowspec_nlri(&rule).unwrap(), [0x03, 0x03, 0x81, 0x06]);
 /// ```
 pub fn encode_flowspec_nlri(nlri: &FlowSpecNlri) -> Result<Vec<u8>, EncodingError> {
-    let written = write_rule(0, 0, nlri);
-    written.map_err(|refusal| match refusal {
-        Refusal::ValueTooLarge(actual) => EncodingError::ValueTooLarge {
-            field: FIELD,
-            actual,
-            max: LONGEST_BODY,
-        },
+    let too_large = |actual| EncodingError::ValueTooLarge {
+        field: FIELD,
+        actual,
+        max: LONGEST_BODY,
+    };
+    write_rule(0, 0, nlri).map_err(|refusal| match (refusal, body_length(nlri)) {
+        (Refusal::ValueTooLarge(actual), _) => too_large(actual),
+        // No record for the archive, and too long all the same.
+        (_, actual) if actual > LONGEST_BODY => too_large(actual),
         _ => EncodingError::Unencodable {
             field: "FlowSpec NLRI",
-            reason: reason(nlri),
+            reason: why_owned(0, 0, nlri)
+                .map_or_else(|| refusal.to_string(), |ground| ground.to_string()),
         },
     })
 }
 
-/// Why the writing refuses a rule as no record.
-fn reason(rule: &FlowSpecNlri) -> String {
-    let (components, operators) = (rule.components.len(), operators_in(rule));
-    let odd = rule
-        .components
-        .iter()
-        .find_map(|one| list_of(one).odd_width());
-    match odd {
-        Some(width) => {
-            format!("an operator's value has {width} octets, and it may have 1, 2, 4 or 8")
+/// The octets of a rule's body as the original writes them, whatever the rule.
+fn body_length(rule: &FlowSpecNlri) -> usize {
+    use FlowSpecComponent::*;
+    let of = |component: &FlowSpecComponent| match component {
+        DestinationPrefix(prefix) | SourcePrefix(prefix) => 2 + address_octets(prefix),
+        DestinationIpv6Prefix { prefix, .. } | SourceIpv6Prefix { prefix, .. } => {
+            3 + match prefix.prefix {
+                IpNet::V4(_) => 0,
+                IpNet::V6(_) => address_octets(prefix),
+            }
         }
-        None if components > COMPONENTS => {
-            format!("it has {components} components, and {COMPONENTS} is the most")
-        }
-        None => format!("it has {operators} operators, and {OPERATORS} is the most"),
-    }
+        list => 1 + list_of(list).octets(),
+    };
+    rule.components.iter().map(of).sum()
+}
+
+fn address_octets(prefix: &NetworkPrefix) -> usize {
+    (usize::from(prefix.prefix.prefix_len()) + 7) / 8
 }

@@ -75,8 +75,8 @@ pub fn read(family: Family, input: &[u8]) -> Result<(FlowSpecNlri, usize), Refus
 /// # Errors
 ///
 /// `BadRecord` for a rule that the family does not know: types that do not rise, a prefix of the wrong form or with bits outside its
-/// range, an empty list, an end mark missing or in the wrong place, AND on a first operator, a value too large for its width.
-/// `ValueTooLarge` for a body of more than 4,095 octets.
+/// range, an empty list, an end mark missing or in the wrong place, AND on a first operator, a value too large for its width; [`why`](crate::why())
+/// says which. `ValueTooLarge` for a body of more than 4,095 octets.
 ///
 /// ```
 /// use krubbadin::{read, write, Family, Refusal};
@@ -95,8 +95,8 @@ pub fn write(family: Family, rule: &FlowSpecNlri) -> Result<Vec<u8>, Refusal> {
 ///
 /// # Errors
 ///
-/// `BadPacket`; `BadRecord` or `ValueTooLarge` as [`write()`] has them, both told as `BadRecord`; `MixedFamily` if the packet is of
-/// another family.
+/// `BadPacket` ([`Packet::why`] says which field); `BadRecord` or `ValueTooLarge` as [`write()`] has them, both told as `BadRecord`
+/// ([`why`](crate::why()) says which); `MixedFamily` if the packet is of another family.
 ///
 /// ```
 /// use krubbadin::{matches, read, Family, Packet};
@@ -254,6 +254,38 @@ impl Table {
         self.rules.read(family.number(), input)
     }
 
+    /// The rule at a place, as it is read again from what the table keeps; path ids are not kept.
+    ///
+    /// ```
+    /// use krubbadin::{Family, Table};
+    ///
+    /// let mut table = Table::new();
+    /// table.read(Family::Ipv4, &[0x03, 0x01, 0x08, 0x0A]).unwrap();
+    /// assert_eq!(table.rule(0).unwrap().to_string(), "destination 10.0.0.0/8");
+    /// assert_eq!(table.rule(1), None);
+    /// ```
+    pub fn rule(&self, place: usize) -> Option<FlowSpecNlri> {
+        self.rules.get(place).map(|(_, rule)| rule)
+    }
+
+    /// The rules in their order, each with its family.
+    ///
+    /// ```
+    /// use krubbadin::{Family, Table};
+    ///
+    /// let mut table = Table::new();
+    /// table.read(Family::Ipv4, &[0x03, 0x01, 0x08, 0x0A]).unwrap();
+    /// table.read(Family::Ipv6, &[0x03, 0x03, 0x81, 0x06]).unwrap();
+    /// let all: Vec<String> = table.iter().map(|(family, rule)| format!("{family:?}: {rule}")).collect();
+    /// assert_eq!(all, ["Ipv4: destination 10.0.0.0/8", "Ipv6: protocol =6"]);
+    /// ```
+    pub fn iter(&self) -> impl Iterator<Item = (Family, FlowSpecNlri)> + '_ {
+        (0..self.len()).filter_map(|place| {
+            let (number, rule) = self.rules.get(place)?;
+            Some((Family::try_from(number).ok()?, rule))
+        })
+    }
+
     /// Takes off all rules.
     ///
     /// ```
@@ -281,7 +313,7 @@ impl Table {
 ///
 /// # Errors
 ///
-/// `BadPacket`; `MixedFamily` with the place of the first rule of another family than the packet's.
+/// `BadPacket` ([`Packet::why`] says which field); `MixedFamily` with the place of the first rule of another family than the packet's.
 ///
 /// ```
 /// use krubbadin::{choose, Family, Packet, Table};

@@ -50,9 +50,14 @@ fn read_within(
     let mut words = [0; WORDS];
     let answer = surface::read(standard, family, input, &mut words, values, octets);
     let (used, _) = answer.accepted()?;
+    Ok((rule_of(&words, values, octets), used))
+}
+
+/// The rule that words name, whose operators begin where the lists do.
+fn rule_of(words: &[u64], values: &[u64], octets: &[u8]) -> FlowSpecNlri {
     let groups = words.chunks_exact(4).take(words[COUNT] as usize);
     let components = groups.map(|group| component(group, values, octets));
-    Ok((FlowSpecNlri::new(components.collect()), used))
+    FlowSpecNlri::new(components.collect())
 }
 
 /// No input has more operators: each takes two octets of it at least.
@@ -106,6 +111,14 @@ impl Many {
     /// How many rules there are.
     pub fn len(&self) -> usize {
         self.words.len() / WORDS
+    }
+
+    /// The number of a rule's family, and the rule.
+    pub fn get(&self, place: usize) -> Option<(u8, FlowSpecNlri)> {
+        let words = self.words.chunks_exact(WORDS).nth(place)?;
+        let first = words[FIRST] as usize;
+        let rule = rule_of(words, &self.values[first..], &self.octets[first..]);
+        Some((words[FAMILY] as u8, rule))
     }
 
     /// Takes off what came after so many rules and operators.
@@ -201,6 +214,16 @@ impl List<'_> {
         }
     }
 
+    /// How many octets operators and values take, also where a width has no code.
+    pub fn octets(&self) -> usize {
+        let of = |width: u8| 1 + usize::from(width);
+        match self {
+            List::None => 0,
+            List::Numeric(list) => list.iter().map(|one| of(one.value_length)).sum(),
+            List::Bitmask(list) => list.iter().map(|one| of(one.value_length)).sum(),
+        }
+    }
+
     /// The first width that has no code.
     pub fn odd_width(&self) -> Option<u8> {
         let odd = |width: &u8| !has_code(*width);
@@ -293,7 +316,7 @@ fn prefix_words(kind: u64, prefix: &NetworkPrefix, offset: Option<u8>) -> [u64; 
     [kind + 16 * form, length + 256 * offset, high, low]
 }
 
-/// The component that four words name, which a reading wrote.
+/// The component that four words name, which a reading wrote, or which were put in from a component.
 fn component(group: &[u64], values: &[u64], octets: &[u8]) -> FlowSpecComponent {
     let (kind, form) = (group[0] % 16, group[0] / 16);
     if kind > 2 {

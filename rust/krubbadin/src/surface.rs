@@ -43,6 +43,8 @@
 
 #![allow(unsafe_code)]
 
+pub use crate::why::{why_packet, why_rule};
+
 /// The words of a rule.
 ///
 /// ```

@@ -5,24 +5,8 @@
 //! program. Afterwards every place must be as it was before, but those that the answer says were filled, and both calls must have
 //! answered the same.
 
-#[path = "../../differential/src/inputs.rs"]
-#[allow(dead_code)]
-mod inputs;
-#[path = "../../differential/src/random.rs"]
-#[allow(dead_code)]
-mod random;
-
+use inputs::{Form, Random, LONGEST_INPUT};
 use krubbadin::surface::{self, Answer, COUNT, FAMILY, FIRST, OPERATORS, PACKET, WORDS};
-use random::Random;
-
-// What `inputs` asks for.
-#[derive(Debug, Clone, Copy, PartialEq, Eq)]
-pub enum Form {
-    Plain,
-    Standard(u8),
-}
-const LONGEST_INPUT: usize = 4097;
-const LONGEST_BODY: usize = 4095;
 
 /// Turns; each makes two calls of each function that takes slices.
 const TURNS: usize = 40_000;
@@ -40,46 +24,31 @@ fn main() {
 
 /// Pages that are asked of the system, the first and the last of them shut.
 mod pages {
-    use std::ffi::c_void;
-    use std::os::raw::{c_int, c_long};
-
-    const READ_WRITE: c_int = 1 | 2;
-    const PRIVATE_ANONYMOUS: c_int = 0x02 | 0x20;
-    const SHUT: c_int = 0;
-    const PAGE_SIZE: c_int = 30;
-
-    extern "C" {
-        fn mmap(
-            at: *mut c_void,
-            length: usize,
-            access: c_int,
-            kind: c_int,
-            file: c_int,
-            offset: i64,
-        ) -> *mut c_void;
-        fn mprotect(at: *mut c_void, length: usize, access: c_int) -> c_int;
-        fn sysconf(name: c_int) -> c_long;
-    }
+    use libc::{mmap, mprotect, sysconf, MAP_ANONYMOUS, MAP_FAILED, MAP_PRIVATE};
+    use libc::{PROT_NONE, PROT_READ, PROT_WRITE};
 
     /// Room for so many elements or somewhat more, between two shut pages.
     pub fn between_shut<T: Copy>(count: usize) -> &'static mut [T] {
         // SAFETY: the system's calls are used as they are described; what is given out is mapped, aligned to a page, zero, and given to
         // nobody else. Numbers of any bits are what this is used for.
         unsafe {
-            let page = sysconf(PAGE_SIZE) as usize;
+            let page = sysconf(libc::_SC_PAGESIZE) as usize;
             let inner = (count * std::mem::size_of::<T>() + page - 1) / page * page;
             let all = mmap(
                 std::ptr::null_mut(),
                 inner + 2 * page,
-                READ_WRITE,
-                PRIVATE_ANONYMOUS,
+                PROT_READ | PROT_WRITE,
+                MAP_PRIVATE | MAP_ANONYMOUS,
                 -1,
                 0,
             );
-            assert_ne!(all as isize, -1, "no pages");
+            assert_ne!(all, MAP_FAILED, "no pages");
             let last = all.cast::<u8>().add(page + inner).cast();
             assert_eq!(
-                (mprotect(all, page, SHUT), mprotect(last, page, SHUT)),
+                (
+                    mprotect(all, page, PROT_NONE),
+                    mprotect(last, page, PROT_NONE)
+                ),
                 (0, 0),
                 "no guard pages"
             );
@@ -565,31 +534,21 @@ fn operators(random: &mut Random) -> Calls {
 /// A thread on a stack that was painted, and how far down the paint was touched.
 mod painted {
     use super::pages;
-    use std::ffi::c_void;
-    use std::os::raw::c_int;
+    use libc::{c_int, c_void, pthread_attr_destroy, pthread_attr_init, pthread_attr_t};
+    use libc::{pthread_create, pthread_join};
+    use std::mem::MaybeUninit;
 
     /// Far more than the calls take, and than a thread's own beginning takes.
     const WORDS: usize = 1 << 16;
     const PAINT: u64 = 0xC3A5_7E19_D42B_8F60;
 
-    /// Larger than that of any C library.
-    #[repr(C, align(16))]
-    struct Attributes([u8; 256]);
-
     extern "C" {
-        fn pthread_attr_init(attributes: *mut Attributes) -> c_int;
+        // Debian 12's libc crate does not have this one.
         fn pthread_attr_setstack(
-            attributes: *mut Attributes,
+            attributes: *mut pthread_attr_t,
             from: *mut c_void,
             length: usize,
         ) -> c_int;
-        fn pthread_create(
-            thread: *mut usize,
-            attributes: *const Attributes,
-            start: extern "C" fn(*mut c_void) -> *mut c_void,
-            given: *mut c_void,
-        ) -> c_int;
-        fn pthread_join(thread: usize, given_back: *mut *mut c_void) -> c_int;
     }
 
     struct Job<'a> {
@@ -624,20 +583,22 @@ mod painted {
             top: 0,
             lowest: 0,
         };
-        let mut attributes = Attributes([0; 256]);
+        let mut attributes = MaybeUninit::<pthread_attr_t>::uninit();
         let (mut thread, mut given_back) = (0, std::ptr::null_mut());
         // SAFETY: the system's calls are used as they are described; the stack and the job outlive the thread.
         let done = unsafe {
+            let attributes = attributes.as_mut_ptr();
             let stack = (stack.as_mut_ptr().cast(), std::mem::size_of_val(stack));
             let job: *mut Job = &mut job;
             [
-                pthread_attr_init(&mut attributes),
-                pthread_attr_setstack(&mut attributes, stack.0, stack.1),
-                pthread_create(&mut thread, &attributes, run, job.cast()),
+                pthread_attr_init(attributes),
+                pthread_attr_setstack(attributes, stack.0, stack.1),
+                pthread_create(&mut thread, attributes, run, job.cast()),
                 pthread_join(thread, &mut given_back),
+                pthread_attr_destroy(attributes),
             ]
         };
-        assert_eq!(done, [0; 4], "no thread");
+        assert_eq!(done, [0; 5], "no thread");
         job.top - job.lowest
     }
 }

@@ -1,19 +1,14 @@
 //! Code written against the original compiles with another `use` line and answers the same: `drop_in/validator.rs`, taken twice.
 
-#[path = "../../differential/src/inputs.rs"]
-#[allow(dead_code)]
-mod inputs;
-#[path = "../../differential/src/random.rs"]
-#[allow(dead_code)]
-mod random;
-
-use random::Random;
+use inputs::{Form, Random, LONGEST_INPUT};
 
 mod original {
     use oracle::{error::EncodingError, flowspec::*, NetworkPrefix};
     include!("drop_in/validator.rs");
 }
 
+// The original's prefixes are not Copy, so code written against it clones them.
+#[allow(clippy::clone_on_copy)]
 mod proved {
     use krubbadin::*;
     include!("drop_in/validator.rs");
@@ -25,15 +20,6 @@ mod paths {
     use krubbadin::nlri::{encode_flowspec_nlri, parse_flowspec_nlri};
     use krubbadin::operators::{BitmaskOperator, NumericOperator};
 }
-
-// What `inputs` asks for.
-#[derive(Debug, Clone, Copy, PartialEq, Eq)]
-pub enum Form {
-    Plain,
-    Standard(u8),
-}
-const LONGEST_INPUT: usize = 4097;
-const LONGEST_BODY: usize = 4095;
 
 fn same(octets: &[u8]) {
     assert_eq!(
@@ -90,6 +76,17 @@ fn rules_that_are_built_are_written_as_the_original_writes_them() {
     for (rule, same) in proved::built().iter().zip(&original::built()) {
         assert_eq!(proved::logged(rule), original::logged(same));
         assert_eq!(proved::written(rule), original::written(same));
+    }
+}
+
+#[test]
+fn rules_that_are_too_long_have_the_length_that_the_original_gives() {
+    let (proved, original) = (proved::too_long(), original::too_long());
+    assert!(proved.len() == original.len() && proved.len() > 20);
+    for (rule, same) in proved.iter().zip(&original) {
+        let said = proved::written(rule);
+        assert_eq!(said, original::written(same));
+        assert!(said.ends_with(" over 4095"), "{said}");
     }
 }
 

@@ -1,26 +1,10 @@
 //! The standard calls on owned rules say what the surface says on words: readings, writings, and every refusal through the safe types.
 
-#[path = "../../differential/src/inputs.rs"]
-#[allow(dead_code)]
-mod inputs;
-#[path = "../../differential/src/random.rs"]
-#[allow(dead_code)]
-mod random;
-
+use inputs::{Form, Random, LONGEST_INPUT};
 use krubbadin::surface::{self, COUNT, FAMILY, OPERATORS, WORDS};
 use krubbadin::*;
-use random::Random;
 use std::cmp::Ordering;
 use std::error::Error;
-
-// What `inputs` asks for.
-#[derive(Debug, Clone, Copy, PartialEq, Eq)]
-pub enum Form {
-    Plain,
-    Standard(u8),
-}
-const LONGEST_INPUT: usize = 4097;
-const LONGEST_BODY: usize = 4095;
 
 const FAMILIES: [Family; 2] = [Family::Ipv4, Family::Ipv6];
 
@@ -108,6 +92,17 @@ fn owned_rules_match_rank_and_choose_as_tables_of_words_do() {
             owned.push(family, rule).unwrap();
             words.read(family, input).unwrap();
         }
+        for (place, (rule, _)) in rules.iter().take(Table::MOST).enumerate() {
+            assert_eq!(owned.rule(place).as_ref(), Some(rule));
+            assert_eq!(words.rule(place).as_ref(), Some(rule));
+        }
+        assert_eq!(
+            (owned.rule(owned.len()), owned.rule(usize::MAX)),
+            (None, None)
+        );
+        let given: Vec<_> = owned.iter().map(|(of, rule)| (of, Some(rule))).collect();
+        let wanted = (0..owned.len()).map(|place| (family, words.rule(place)));
+        assert_eq!(given, wanted.collect::<Vec<_>>());
         assert_eq!(owned, words);
         let first = rules.first().unwrap();
         assert_eq!(owned.push(family, &first.0), Err(Refusal::TooManyRules(65)));
@@ -235,8 +230,14 @@ fn each_refusal_is_met_where_it_belongs() {
         );
         2048
     ])]);
+    // No record, and over the longest body, which is what the original says.
+    assert_eq!(write(Family::Ipv4, &many), Err(Refusal::BadRecord));
+    assert_eq!(why(Family::Ipv4, &many), Some(Ground::Operators(2048)));
     let error = encode_flowspec_nlri(&many).unwrap_err();
-    assert!(error.to_string().contains("2048 operators"), "{error}");
+    assert!(
+        matches!(error, EncodingError::ValueTooLarge { actual: 4097, .. }),
+        "{error}"
+    );
 
     let mut table = Table::new();
     table.push(Family::Ipv4, &rule).unwrap();
@@ -248,6 +249,85 @@ fn each_refusal_is_met_where_it_belongs() {
     assert_eq!(choose(&table, &six), Err(Refusal::MixedFamily(0)));
     table.clear();
     assert_eq!(choose(&table, &six), Ok(None));
+}
+
+#[test]
+fn errors_of_a_first_type_and_of_a_family_say_so() {
+    let text = |family, input: &[u8]| read(family, input).unwrap_err().to_string();
+    let first = "the first component has type 0, and types are 1 to 13";
+    assert_eq!(text(Family::Ipv4, &[0x01, 0x00]), first);
+    assert_eq!(text(Family::Ipv6, &[0x01, 0x00]), first);
+    assert_eq!(
+        text(Family::Ipv6, &[0x04, 0x03, 0x81, 0x06, 0x00]),
+        "a component of type 0 follows type 3, and types must rise"
+    );
+    assert_eq!(
+        text(Family::Ipv4, &[0x01, 0x0D]),
+        "type 13, the flow label, is not in IPv4 (RFC 8956)"
+    );
+    for family in FAMILIES {
+        let other = "no component has type 14: types are 1 to 13";
+        assert_eq!(text(family, &[0x01, 0x0E]), other);
+    }
+    // The original's error has the original's text.
+    let error = parse_flowspec_nlri(&[0x01, 0x0E]).unwrap_err();
+    assert_eq!(error.to_string(), "Invalid component type: 14");
+}
+
+#[test]
+fn a_rule_prints_in_one_line() {
+    let list = |kind: u8, operators: &[u8]| {
+        let input = [&[operators.len() as u8 + 1, kind], operators].concat();
+        read(Family::Ipv6, &input).unwrap().0.to_string()
+    };
+    let numbers = [
+        0x00, 0, 0x01, 1, 0x02, 2, 0x43, 3, 0x04, 4, 0x45, 5, 0x06, 6, 0x87, 7,
+    ];
+    assert_eq!(
+        list(4, &numbers),
+        "port false or =1 or >2 and >=3 or <4 and <=5 or !=6 or true"
+    );
+    assert_eq!(
+        list(12, &[0x00, 1, 0x41, 2, 0x02, 4, 0x93, 0x12, 0x34]),
+        "fragment any 0x01 and all 0x02 or not any 0x04 or not all 0x1234"
+    );
+    let names = [
+        "protocol",
+        "port",
+        "destination port",
+        "source port",
+        "ICMP type",
+        "ICMP code",
+        "TCP flags",
+        "packet length",
+        "DSCP",
+        "fragment",
+        "flow label",
+    ];
+    for (kind, name) in (3..).zip(names) {
+        let asked = if matches!(kind, 9 | 12) {
+            "all 0x2A"
+        } else {
+            "=42"
+        };
+        assert_eq!(list(kind, &[0x81, 42]), format!("{name} {asked}"));
+    }
+    // RFC 8956, 3.8.2, and an offset of 0.
+    let input = [
+        0x0F, 0x01, 0x20, 0x00, 0x20, 0x01, 0x0D, 0xB8, 0x02, 0x68, 0x41, 0x24, 0x68, 0xAC, 0xF1,
+        0x34,
+    ];
+    let (rule, _) = read(Family::Ipv6, &input).unwrap();
+    assert_eq!(
+        rule.to_string(),
+        "destination 2001:db8::/32; source ::1234:5678:9a00:0/65-104"
+    );
+    let odd = FlowSpecNlri::new(vec![
+        FlowSpecComponent::SourcePrefix("10.0.0.1/8".parse().unwrap()),
+        FlowSpecComponent::Port(vec![]),
+    ]);
+    assert_eq!(odd.to_string(), "source 10.0.0.1/8; port nothing");
+    assert_eq!(FlowSpecNlri::new(vec![]).to_string(), "every packet");
 }
 
 #[test]

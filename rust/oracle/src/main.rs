@@ -5,7 +5,9 @@ use std::io::{self, BufWriter, ErrorKind, Write};
 use std::process::ExitCode;
 
 fn main() -> ExitCode {
-    let arguments: Vec<String> = std::env::args().skip(1).collect();
+    // An argument that is no text is none that is known.
+    let known = |one: std::ffi::OsString| one.to_string_lossy().into_owned();
+    let arguments: Vec<String> = std::env::args_os().skip(1).map(known).collect();
     let arguments: Vec<&str> = arguments.iter().map(String::as_str).collect();
     let mut output = BufWriter::new(io::stdout().lock());
     let done = match arguments[..] {

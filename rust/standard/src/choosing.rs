@@ -1,8 +1,11 @@
 //! Which of several rules decides about a packet.
 
+use crate::checking::check;
 use crate::matching::is_match;
+use crate::packets::Packet;
 use crate::ranking::key;
-use crate::{Flow, Packet, Refusal, RULES};
+use crate::refusals::Refusal;
+use crate::rules::Flow;
 
 /// The place of the rule that decides: of those that match, the one that precedes all others; of
 /// some that rank equal, the first. None where no rule matches.
@@ -13,22 +16,4 @@ pub fn choose(flows: &[Flow], packet: &Packet) -> Result<Option<usize>, Refusal>
     places.sort_by_cached_key(|&place| key(&flows[place]));
     let decides = |place: &usize| is_match(&flows[*place].rule, packet);
     Ok(places.into_iter().find(decides))
-}
-
-/// Document 01, "What comes back": refusals 12, 13, 10 and 14, in this order.
-pub(crate) fn check(flows: &[Flow], packet: &Packet) -> Result<(), Refusal> {
-    if flows.len() > RULES {
-        return Err(Refusal::TooManyRules(flows.len()));
-    }
-    if !packet.is_in_range() {
-        return Err(Refusal::BadPacket);
-    }
-    if !flows.iter().all(Flow::is_well_formed) {
-        return Err(Refusal::BadRecord);
-    }
-    let is_other = |flow: &Flow| u64::from(flow.family) != packet.family;
-    match flows.iter().position(is_other) {
-        Some(place) => Err(Refusal::MixedFamily(place)),
-        None => Ok(()),
-    }
 }

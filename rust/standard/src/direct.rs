@@ -10,9 +10,11 @@
 //! What it asks of a prefix and of a list it asks of them wherever they stand: rules that are stored
 //! in another form than `Rule` can be chosen from in the same way.
 
-use crate::{is_ipv6_range, width, Address, Component, Content, Flow, Operator, Packet, Prefix};
-use crate::{Refusal, Rule, AND, BODY, COMPONENTS, END, EQUAL, GREATER, LESS, MATCH, NOT};
-use crate::{OPERATORS, RULES};
+use crate::packets::Packet;
+use crate::refusals::Refusal;
+use crate::rules::{Address, Component, Content, Flow, Operator, Prefix, Rule};
+use crate::terms::{is_ipv6_range, width, BODY, COMPONENTS, OPERATORS, RULES};
+use crate::terms::{AND, END, EQUAL, GREATER, LESS, MATCH, NOT};
 use std::cmp::Ordering;
 
 /// As `crate::choose`.

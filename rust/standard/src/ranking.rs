@@ -1,7 +1,10 @@
 //! Which of two rules precedes: RFC 8955, 5.1, and RFC 8956, 4 for the offset.
 
+use crate::checking::is_well_formed;
+use crate::refusals::Refusal;
+use crate::rules::{Address, Content, Flow, Prefix};
+use crate::terms::{kind_of, Family};
 use crate::writing::write_list;
-use crate::{kind_of, Address, Content, Family, Flow, Prefix, Refusal};
 use std::cmp::Ordering;
 
 /// Where a rule, a list or a prefix ended, its key has a number above all that could go on there: a
@@ -13,7 +16,7 @@ const NO_BIT: u16 = 2;
 /// `Less` where the first rule precedes. Refused as the chooser refuses the two, the family being
 /// that of the first.
 pub fn rank(one: &Flow, other: &Flow) -> Result<Ordering, Refusal> {
-    if !one.is_well_formed() || !other.is_well_formed() {
+    if !is_well_formed(one) || !is_well_formed(other) {
         return Err(Refusal::BadRecord);
     }
     if one.family != other.family {

@@ -1,8 +1,8 @@
 //! The standard reading.
 
-use crate::{is_ipv6_range, kind_of, width, without_reserved};
-use crate::{Address, Component, Content, Operator, Prefix, Rule};
-use crate::{Family, Kind, Refusal, AND, END};
+use crate::refusals::Refusal;
+use crate::rules::{Address, Component, Content, Operator, Prefix, Rule};
+use crate::terms::{is_ipv6_range, kind_of, width, without_reserved, Family, Kind, AND, END};
 
 /// A rule that was read, and how many octets of the input its length field and its body took.
 #[derive(Debug, Clone, PartialEq, Eq)]

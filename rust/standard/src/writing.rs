@@ -1,8 +1,9 @@
 //! The standard writing.
 
-use crate::{is_ipv6_range, kind_of, width, without_reserved};
-use crate::{Address, Component, Content, Operator, Prefix, Rule};
-use crate::{Family, Kind, Refusal, AND, BODY, COMPONENTS, END, OPERATORS};
+use crate::refusals::Refusal;
+use crate::rules::{Address, Component, Content, Operator, Prefix, Rule};
+use crate::terms::{is_ipv6_range, kind_of, width, without_reserved};
+use crate::terms::{Family, Kind, AND, BODY, COMPONENTS, END, OPERATORS};
 
 /// Writes a rule: its length and its body. The family is 4 or 6.
 pub fn write(family: u8, rule: &Rule) -> Result<Vec<u8>, Refusal> {

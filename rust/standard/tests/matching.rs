@@ -174,7 +174,7 @@ fn each_type_looks_at_its_own_field() {
     let labelled = Packet {
         family: 6,
         label: Some(113),
-        ..unlike.clone()
+        ..unlike
     };
     for number in 0..=255 {
         let met = |kind: u8, packet: &Packet| {

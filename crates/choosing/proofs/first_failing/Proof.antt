@@ -2,8 +2,6 @@
 use borrow.Author.Tests.{lt-ltb, le-ltb}
 use Rattle.choosing.proofs.first_failing.Statement.{statement}
 use Rattle.choosing.proofs.first_failing.Tie as tie
-use Rattle.choosing.proofs.first_failing.Reads as reads
-use Rattle.choosing.proofs.first_failing.Lts as lts
 
 returns : tie.Need-returns
 returns c = simp (lt-ltb _ _ (c .if1 .taken))

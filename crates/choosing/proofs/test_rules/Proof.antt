@@ -1,17 +1,12 @@
 -- `choosing::test_rules` meets its contract: the invariant is `Tests`, that all before are well-formed.
+use Prim.Native.Nat.{ℕ, _-_}
+use mathlib.Core.Path.{ap}
 use borrow.Author.Needs.{needs}
+use lib.Dec.{eqb}
 use Rattle.choosing.specs.Choosing.{table}
-use Rattle.choosing.proofs.Steps.{Tests, tests-start, tests-on, tests-end, tests-bad}
-use Prim.Native.Nat.{_-_}
-use mathlib.Core.Path.{_≡_, refl, sym, ap, _∙_}
-use native.Mathlib.Omega.{arith}
-use borrow.Author.Tests.{not-true, not-false}
+use Rattle.choosing.proofs.Passes.{Tests, tests-start, tests-on, tests-end, tests-bad}
 use Rattle.choosing.proofs.test_rules.Statement.{statement}
 use Rattle.choosing.proofs.test_rules.Tie as tie
-use Rattle.choosing.proofs.test_rules.Reads as reads
-use Rattle.choosing.proofs.test_rules.Lts as lts
-use Rattle.choosing.proofs.first_failing.Reads as first-failing-reads
-use Rattle.verdicts.proofs.well_formed.Reads as well-formed-reads
 
 abbrev Inv-loop : tie.InvT-loop
 Inv-loop words values octets family n mixed₀ i₀ mixed i = Tests (table words values octets) family n i mixed
@@ -22,38 +17,17 @@ abbrev μ-loop : tie.MeasureT-loop
 loop-holds : tie.Need-loop-holds Inv-loop μ-loop
 loop-holds c = tests-start _ _ _
 
-mul-well-formed : tie.Need-mul-well-formed Inv-loop μ-loop
-mul-well-formed c = search needs
-
-well-formed-requires : tie.Need-well-formed-requires Inv-loop μ-loop
-well-formed-requires c κs = search needs
-
 returns : tie.Need-returns Inv-loop μ-loop
-returns c = tests-bad _ _ _ _ (c .before .before .loop-test .taken) (sym (c .before .well-formed .ensures) ∙ not-true _ (c .if1 .taken))
-
-mul-first-failing : tie.Need-mul-first-failing Inv-loop μ-loop
-mul-first-failing c = search needs
-
-add-first-failing : tie.Need-add-first-failing Inv-loop μ-loop
-add-first-failing c = search needs
-
-mul-first-failing-2 : tie.Need-mul-first-failing-2 Inv-loop μ-loop
-mul-first-failing-2 c = search needs
-
-shared-slice-read-first-failing : tie.Need-shared-slice-read-first-failing Inv-loop μ-loop
-shared-slice-read-first-failing c = search needs
-
-first-failing-requires : tie.Need-first-failing-requires Inv-loop μ-loop
-first-failing-requires c κs = search needs
-
-add-i : tie.Need-add-i Inv-loop μ-loop
-add-i c = search needs
-
-loop-less : tie.Need-loop-less Inv-loop μ-loop
-loop-less c = search needs
+returns c = tests-bad _ _ _ _ (c .before .before .loop-test .taken) _ (c .before .well-formed .ensures) (c .if1 .taken)
 
 loop-again : tie.Need-loop-again Inv-loop μ-loop
-loop-again c = let e = c .before .before in let w = e .before in let o = w .before .before in tests-on _ _ _ _ _ (o .loop .inv) (w .before .loop-test .taken) (sym (w .well-formed .ensures) ∙ not-false _ (e .if1 .left)) _ (c .first-failing .ensures)
+loop-again c =
+    let f = c .before in
+    let e = f .before in
+    let w = e .before in
+    let l = w .before in
+    let family = l .before .before .before .before .before .args .family in
+    tests-on _ _ _ _ _ (l .before .loop .inv) (l .loop-test .taken) _ (w .well-formed .ensures) (e .if1 .left) _ (ap (λ (x : ℕ). eqb x family) (f .family-at .ensures)) _ (c .first-failing .ensures)
 
 returns-2 : tie.Need-returns-2 Inv-loop μ-loop
 returns-2 c = tests-end _ _ _ _ _ (c .before .loop .inv) (c .loop-test .left)
@@ -65,15 +39,13 @@ test-rules-spec =
     Inv-loop
     μ-loop
     loop-holds
-    mul-well-formed
-    well-formed-requires
+    (λ c. search needs)
+    (λ c κs. search needs)
     returns
-    mul-first-failing
-    add-first-failing
-    mul-first-failing-2
-    shared-slice-read-first-failing
-    first-failing-requires
-    add-i
-    loop-less
+    (λ c. search needs)
+    (λ c κs. search needs)
+    (λ c κs. search needs)
+    (λ c. search needs)
+    (λ c. search needs)
     loop-again
     returns-2)

@@ -1,6 +1,7 @@
 -- `krubbadin::krubbadin_read` meets its contract: the number names no reading, or the reading that it names goes.
 use Rattle.krubbadin.proofs.Posts.{named}
-use Rattle.krubbadin.specs.Surface.{readAnswer, toldWhich}
+use Rattle.choices.specs.Choices.{toldStandard}
+use Rattle.krubbadin.specs.Surface.{readAnswer}
 use mathlib.Core.Path.{refl, sym, ap, _∙_}
 use borrow.Author.Needs.{needs}
 use Rattle.krubbadin.proofs.krubbadin_read.Statement.{statement}
@@ -12,33 +13,6 @@ use Rattle.krubbadin.proofs.read_answer.Reads as read-answer-reads
 use Rattle.krubbadin.proofs.refused.Reads as refused-reads
 use Rattle.reading.proofs.read_into.Reads as read-into-reads
 
-named-by-requires : tie.Need-named-by-requires
-named-by-requires c κs = search needs
-
-enum-known-reading : tie.Need-enum-known-reading
-enum-known-reading c = search needs
-
-read-into-requires : tie.Need-read-into-requires
-read-into-requires c κs = search needs
-
-read-answer-requires : tie.Need-read-answer-requires
-read-answer-requires c κs = search needs
-
-enum-known-fault : tie.Need-enum-known-fault
-enum-known-fault c = search needs
-
-refused-requires : tie.Need-refused-requires
-refused-requires c κs = search needs
-
-same-length : tie.Need-same-length
-same-length c = search needs
-
-same-length-2 : tie.Need-same-length-2
-same-length-2 c = search needs
-
-same-length-3 : tie.Need-same-length-3
-same-length-3 c = search needs
-
 returns : tie.Need-returns
 returns c =
     let u = c .before .before .before .before .before .before .before in
@@ -46,7 +20,7 @@ returns c =
     let w = k .before .before in
     let g = w .before .before .before .before .before in
     named (g .args .input .now) (g .args .words .now) (g .args .values .now) (g .args .octets .now)
-    (sym (ap toldWhich (k .reading .given .1)) ∙ w .named-by .ensures)
+    (sym (ap toldStandard (k .reading .given .1)) ∙ w .named-by .ensures)
     (c .read-answer .ensures ∙ ap readAnswer (u .read-into .ensures .0), u .read-into .ensures .1)
 
 returns-2 : tie.Need-returns-2
@@ -55,21 +29,21 @@ returns-2 c =
     let w = k .before .before in
     let g = w .before .before .before .before .before in
     named (g .args .input .now) (g .args .words .now) (g .args .values .now) (g .args .octets .now)
-    (sym (ap toldWhich (k .fault .given .1)) ∙ w .named-by .ensures)
+    (sym (ap toldStandard (k .fault .given .1)) ∙ w .named-by .ensures)
     (c .refused .ensures, (refl, (refl, refl)))
 
 pub krubbadin-read-spec : {M : Type 1} → statement M
 krubbadin-read-spec =
     tie.close
     (tie.spec
-    named-by-requires
-    enum-known-reading
-    read-into-requires
-    read-answer-requires
-    enum-known-fault
-    refused-requires
-    same-length
-    same-length-2
-    same-length-3
+    (λ c κs. search needs)
+    (λ c. search needs)
+    (λ c κs. search needs)
+    (λ c κs. search needs)
+    (λ c. search needs)
+    (λ c κs. search needs)
+    (λ c. search needs)
+    (λ c. search needs)
+    (λ c. search needs)
     returns
     returns-2)

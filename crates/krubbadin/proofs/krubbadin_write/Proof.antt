@@ -1,6 +1,7 @@
 -- `krubbadin::krubbadin_write` meets its contract: the number names no writing, or the writing that it names goes.
 use Rattle.krubbadin.proofs.Posts.{named-writing}
-use Rattle.krubbadin.specs.Surface.{writtenAnswer, toldWhich}
+use Rattle.choices.specs.Choices.{toldStandard}
+use Rattle.krubbadin.specs.Surface.{writtenAnswer}
 use mathlib.Core.Path.{refl, sym, ap, _∙_}
 use borrow.Author.Needs.{needs}
 use Rattle.krubbadin.proofs.krubbadin_write.Statement.{statement}
@@ -12,27 +13,6 @@ use Rattle.krubbadin.proofs.refused.Reads as refused-reads
 use Rattle.krubbadin.proofs.write_answer.Reads as write-answer-reads
 use Rattle.writing.proofs.write_from.Reads as write-from-reads
 
-named-by-requires : tie.Need-named-by-requires
-named-by-requires c κs = search needs
-
-enum-known-writing : tie.Need-enum-known-writing
-enum-known-writing c = search needs
-
-write-from-requires : tie.Need-write-from-requires
-write-from-requires c κs = search needs
-
-write-answer-requires : tie.Need-write-answer-requires
-write-answer-requires c κs = search needs
-
-enum-known-fault : tie.Need-enum-known-fault
-enum-known-fault c = search needs
-
-refused-requires : tie.Need-refused-requires
-refused-requires c κs = search needs
-
-same-length : tie.Need-same-length
-same-length c = search needs
-
 returns : tie.Need-returns
 returns c =
     let u = c .before .before .before in
@@ -40,7 +20,7 @@ returns c =
     let w = k .before .before in
     let g = w .before .before .before .before .before in
     named-writing (g .args .words .now) (g .args .values .now) (g .args .octets .now) (g .args .out .now)
-    (sym (ap toldWhich (k .writing .given .1)) ∙ w .named-by .ensures)
+    (sym (ap toldStandard (k .writing .given .1)) ∙ w .named-by .ensures)
     (c .write-answer .ensures ∙ ap writtenAnswer (u .write-from .ensures .0), u .write-from .ensures .1)
 
 returns-2 : tie.Need-returns-2
@@ -49,19 +29,19 @@ returns-2 c =
     let w = k .before .before in
     let g = w .before .before .before .before .before in
     named-writing (g .args .words .now) (g .args .values .now) (g .args .octets .now) (g .args .out .now)
-    (sym (ap toldWhich (k .fault .given .1)) ∙ w .named-by .ensures)
+    (sym (ap toldStandard (k .fault .given .1)) ∙ w .named-by .ensures)
     (c .refused .ensures, refl)
 
 pub krubbadin-write-spec : {M : Type 1} → statement M
 krubbadin-write-spec =
     tie.close
     (tie.spec
-    named-by-requires
-    enum-known-writing
-    write-from-requires
-    write-answer-requires
-    enum-known-fault
-    refused-requires
-    same-length
+    (λ c κs. search needs)
+    (λ c. search needs)
+    (λ c κs. search needs)
+    (λ c κs. search needs)
+    (λ c. search needs)
+    (λ c κs. search needs)
+    (λ c. search needs)
     returns
     returns-2)

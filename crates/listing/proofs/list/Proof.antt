@@ -13,30 +13,6 @@ use Rattle.listing.proofs.list.Lts as lts
 use Rattle.listing.proofs.put_answer.Reads as put-answer-reads
 use Rattle.listing.proofs.read_listed.Reads as read-listed-reads
 
-slice-aggregate-read-listed : tie.Need-slice-aggregate-read-listed
-slice-aggregate-read-listed c = search needs
-
-slice-aggregate-read-listed-2 : tie.Need-slice-aggregate-read-listed-2
-slice-aggregate-read-listed-2 c = search needs
-
-slice-aggregate-read-listed-3 : tie.Need-slice-aggregate-read-listed-3
-slice-aggregate-read-listed-3 c = search needs
-
-read-listed-requires : tie.Need-read-listed-requires
-read-listed-requires c κs = search needs
-
-slice-aggregate-put-answer : tie.Need-slice-aggregate-put-answer
-slice-aggregate-put-answer c = search needs
-
-slice-aggregate-put-answer-2 : tie.Need-slice-aggregate-put-answer-2
-slice-aggregate-put-answer-2 c = search needs
-
-slice-aggregate-put-answer-3 : tie.Need-slice-aggregate-put-answer-3
-slice-aggregate-put-answer-3 c = search needs
-
-slice-aggregate-put-answer-4 : tie.Need-slice-aggregate-put-answer-4
-slice-aggregate-put-answer-4 c = search needs
-
 put-answer-requires : tie.Need-put-answer-requires
 put-answer-requires c κs =
     let h = c .before .before .before .before .before .before .before in
@@ -57,15 +33,6 @@ returns c =
     let x = too-short (a .input .now) (a .out .now) (needed-is g (p .put-answer .ensures)) (c .if1 .taken) in
     (x .0, (x .1, g .most))
 
-slice-aggregate-put-answer-5 : tie.Need-slice-aggregate-put-answer-5
-slice-aggregate-put-answer-5 c = search needs
-
-slice-aggregate-put-answer-6 : tie.Need-slice-aggregate-put-answer-6
-slice-aggregate-put-answer-6 c = search needs
-
-slice-aggregate-put-answer-7 : tie.Need-slice-aggregate-put-answer-7
-slice-aggregate-put-answer-7 c = search needs
-
 put-answer-requires-2 : tie.Need-put-answer-requires-2
 put-answer-requires-2 c κs =
     let h = c .before .before .before .before .before .before .before .before .before .before .before .before .before .before in
@@ -74,9 +41,6 @@ put-answer-requires-2 c κs =
     let e = h .read-listed .ensures in
     let g = given (a .input .now) (λ i. omega (arith, o .shared-slice-known .given i)) (h .read-listed .result) (e .0) (e .1 .0) (e .1 .1 .0) (e .1 .1 .1) in
     (g .listable, g .placeable)
-
-same-length : tie.Need-same-length
-same-length c = search needs
 
 returns-2 : tie.Need-returns-2
 returns-2 c =
@@ -95,19 +59,19 @@ pub list-spec : {M : Type 1} → statement M
 list-spec =
     tie.close
     (tie.spec
-    slice-aggregate-read-listed
-    slice-aggregate-read-listed-2
-    slice-aggregate-read-listed-3
-    read-listed-requires
-    slice-aggregate-put-answer
-    slice-aggregate-put-answer-2
-    slice-aggregate-put-answer-3
-    slice-aggregate-put-answer-4
+    (λ c. search needs)
+    (λ c. search needs)
+    (λ c. search needs)
+    (λ c κs. search needs)
+    (λ c. search needs)
+    (λ c. search needs)
+    (λ c. search needs)
+    (λ c. search needs)
     put-answer-requires
     returns
-    slice-aggregate-put-answer-5
-    slice-aggregate-put-answer-6
-    slice-aggregate-put-answer-7
+    (λ c. search needs)
+    (λ c. search needs)
+    (λ c. search needs)
     put-answer-requires-2
-    same-length
+    (λ c. search needs)
     returns-2)

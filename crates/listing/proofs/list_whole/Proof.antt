@@ -8,15 +8,6 @@ use Rattle.listing.proofs.list_whole.Reads as reads
 use Rattle.listing.proofs.list_whole.Lts as lts
 use Rattle.listing.proofs.list.Reads as list-reads
 
-list-requires : tie.Need-list-requires
-list-requires c κs = search needs
-
-enum-known-size : tie.Need-enum-known-size
-enum-known-size c = search needs
-
-enum-told : tie.Need-enum-told
-enum-told c = search needs
-
 returns : tie.Need-returns
 returns c =
     let k = c .before in
@@ -33,4 +24,8 @@ returns-2 c =
     absurd (never-refused (a .input .now) (a .out .now) (omega (arith, e .1 .1)) (h .list .result) (e .0) (c .enum-told .given .1))
 
 pub list-whole-spec : {M : Type 1} → statement M
-list-whole-spec = tie.close (tie.spec list-requires enum-known-size enum-told returns returns-2)
+list-whole-spec = tie.close (tie.spec (λ c κs. search needs)
+    (λ c. search needs)
+    (λ c. search needs)
+    returns
+    returns-2)

@@ -12,18 +12,12 @@ use Rattle.listing.proofs.put_answer.Lts as lts
 use Rattle.listing.proofs.put_refusal.Reads as put-refusal-reads
 use Rattle.listing.proofs.put_rule.Reads as put-rule-reads
 
-enum-known-read : tie.Need-enum-known-read
-enum-known-read c = search needs
-
 put-rule-requires : tie.Need-put-rule-requires
 put-rule-requires c κs =
     let k = c .before .before in
     let s = k .before .before .before .before .before .before in
     let a = s .args in
     (s .pre .0, placeable-same (ap (λ q. linesOf (toldInto q) (storedAt (a .words .now) 0 .pieces) (a .values .now) (a .octets .now)) (k .read .given .1)) (s .pre .1))
-
-enum-known-read-2 : tie.Need-enum-known-read-2
-enum-known-read-2 c = search needs
 
 put-refusal-requires : tie.Need-put-refusal-requires
 put-refusal-requires c κs =
@@ -32,18 +26,12 @@ put-refusal-requires c κs =
     let a = s .args in
     placeable-same (ap (λ q. linesOf (toldInto q) (storedAt (a .words .now) 0 .pieces) (a .values .now) (a .octets .now)) (k .read2 .given .1)) (s .pre .1)
 
-same-length : tie.Need-same-length
-same-length c = search needs
-
 returns : tie.Need-returns
 returns c =
     let h = c .before .before in
     let k = h .before .before .before in
     let a = k .before .before .before .before .before .before .args in
     put-same (sym (ap (λ q. linesOf (toldInto q) (storedAt (a .words .now) 0 .pieces) (a .values .now) (a .octets .now)) (k .read .given .1))) (h .put-rule .ensures)
-
-same-length-2 : tie.Need-same-length-2
-same-length-2 c = search needs
 
 returns-2 : tie.Need-returns-2
 returns-2 c =
@@ -56,11 +44,11 @@ pub put-answer-spec : {M : Type 1} → statement M
 put-answer-spec =
     tie.close
     (tie.spec
-    enum-known-read
+    (λ c. search needs)
     put-rule-requires
-    enum-known-read-2
+    (λ c. search needs)
     put-refusal-requires
-    same-length
+    (λ c. search needs)
     returns
-    same-length-2
+    (λ c. search needs)
     returns-2)

@@ -21,9 +21,6 @@ put-decimal-requires c κs =
     let s = j .before .before .before in
     commas-first (s .args .numbers) (j .if1 .left) (s .pre)
 
-same-length : tie.Need-same-length
-same-length c = search needs
-
 returns-2 : tie.Need-returns-2
 returns-2 c =
     let h = c .before .before .before .before in
@@ -51,9 +48,6 @@ put-decimal-requires-2 c κs =
     let r = placeable-same (commas-two n (j .if1 .left) (k .if2 .left)) (s .pre) in
     placeable-rest (decimal (n .first) ++ ascii ",") (decimal (n .second)) (joins _ _ (h .put-decimal .ensures) (p .put .ensures)) r
 
-same-length-2 : tie.Need-same-length-2
-same-length-2 c = search needs
-
 returns-3 : tie.Need-returns-3
 returns-3 c =
     let q = c .before .before in
@@ -71,9 +65,9 @@ put-carried-spec =
     (tie.spec
     returns
     put-decimal-requires
-    same-length
+    (λ c. search needs)
     returns-2
     put-requires
     put-decimal-requires-2
-    same-length-2
+    (λ c. search needs)
     returns-3)

@@ -51,12 +51,6 @@ put-piece-requires c κs =
     let m = left-same (components-more (a .values .now) (a .octets .now) (a .words .now) (k .count-at .result) (l .loop .i) h (q .piece-at .ensures)) (l .loop .inv .1) in
     (component-backed (a .values .now) (a .octets .now) (a .words .now) (k .count-at .result) (l .loop .i) h (q .piece-at .ensures) (k .count-at .ensures) _ _ (s .pre .0 .backed), left-placeable _ _ m (s .pre .1))
 
-add-i : tie.Need-add-i Inv-loop μ-loop
-add-i c = search needs
-
-loop-less : tie.Need-loop-less Inv-loop μ-loop
-loop-less c = search needs
-
 loop-again : tie.Need-loop-again Inv-loop μ-loop
 loop-again c =
     let f = c .before .before in
@@ -90,8 +84,8 @@ put-components-spec =
     mul-piece-at
     piece-at-requires
     put-piece-requires
-    add-i
-    loop-less
+    (λ c. search needs)
+    (λ c. search needs)
     loop-again
     same-length
     returns)

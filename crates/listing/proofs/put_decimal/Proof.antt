@@ -20,20 +20,11 @@ abbrev μ-loop : tie.MeasureT-loop
 loop-holds : tie.Need-loop-holds Inv-loop μ-loop
 loop-holds c = down-first _ _ _
 
-div-digit : tie.Need-div-digit Inv-loop μ-loop
-div-digit c = search needs
-
-digit-requires : tie.Need-digit-requires Inv-loop μ-loop
-digit-requires c κs = search needs
-
 put-if-requires : tie.Need-put-if-requires Inv-loop μ-loop
 put-if-requires c κs =
     let d = c .before in
     let l = d .before .before in
     down-placeable _ (d .digit .ensures) (l .loop .inv) (search needs) (l .before .before .pre)
-
-loop-less : tie.Need-loop-less Inv-loop μ-loop
-loop-less c = search needs
 
 loop-again : tie.Need-loop-again Inv-loop μ-loop
 loop-again c =
@@ -41,9 +32,6 @@ loop-again c =
     let d = h .before .before in
     let l = d .before .before in
     down-more _ (d .digit .ensures) (l .loop .inv) (search needs) (h .put-if .ensures)
-
-digit-requires-2 : tie.Need-digit-requires-2 Inv-loop μ-loop
-digit-requires-2 c κs = search needs
 
 put-requires : tie.Need-put-requires Inv-loop μ-loop
 put-requires c κs =
@@ -71,12 +59,12 @@ put-decimal-spec =
     Inv-loop
     μ-loop
     loop-holds
-    div-digit
-    digit-requires
+    (λ c. search needs)
+    (λ c κs. search needs)
     put-if-requires
-    loop-less
+    (λ c. search needs)
     loop-again
-    digit-requires-2
+    (λ c κs. search needs)
     put-requires
     same-length
     returns)

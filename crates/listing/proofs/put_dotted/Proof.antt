@@ -39,9 +39,6 @@ put-decimal-requires-4 : tie.Need-put-decimal-requires-4
 unfolding dotted
 put-decimal-requires-4 c κs = record { fits = omega (arith, simp length-append at (c .before .before .before .before .before .before .before .before .before .before .before .before .before .before .before .before .before .before .before .before .before .before .before .before .before .before .pre .fits)) }
 
-same-length : tie.Need-same-length
-same-length c = search needs
-
 returns : tie.Need-returns
 unfolding dotted
 returns c =
@@ -65,5 +62,5 @@ put-dotted-spec =
     put-decimal-requires-3
     put-requires-3
     put-decimal-requires-4
-    same-length
+    (λ c. search needs)
     returns)

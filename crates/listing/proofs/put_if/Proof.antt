@@ -10,9 +10,6 @@ use Rattle.listing.proofs.put.Reads as put-reads
 put-requires : tie.Need-put-requires
 put-requires c κs = let s = c .before .before .before in rw (c .before .if1 .taken) at (s .pre)
 
-same-length : tie.Need-same-length
-same-length c = search needs
-
 returns : tie.Need-returns
 returns c = let h = c .before .before in rw (h .before .before .if1 .taken) (h .put .ensures)
 
@@ -20,4 +17,7 @@ returns-2 : tie.Need-returns-2
 returns-2 c = rw (c .if1 .left) (record { place = search needs; stored = refl })
 
 pub put-if-spec : {M : Type 1} → statement M
-put-if-spec = tie.close (tie.spec put-requires same-length returns returns-2)
+put-if-spec = tie.close (tie.spec put-requires
+    (λ c. search needs)
+    returns
+    returns-2)

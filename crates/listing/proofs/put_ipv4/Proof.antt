@@ -12,12 +12,6 @@ use Rattle.listing.proofs.put_decimal.Reads as put-decimal-reads
 use Rattle.listing.proofs.put_dotted.Reads as put-dotted-reads
 use Rattle.listing.proofs.put_text.Reads as put-text-reads
 
-slice-aggregate-put-text : tie.Need-slice-aggregate-put-text
-slice-aggregate-put-text c = search needs
-
-put-text-requires : tie.Need-put-text-requires
-put-text-requires c κs = search needs
-
 put-dotted-requires : tie.Need-put-dotted-requires
 put-dotted-requires c κs = record { fits = omega (arith, simp length-append at (c .before .before .before .before .before .before .before .pre .fits)) }
 
@@ -29,9 +23,6 @@ put-decimal-requires c κs = record { fits = omega (arith, simp length-append at
 
 put-requires-2 : tie.Need-put-requires-2
 put-requires-2 c κs = record { fits = omega (arith, simp length-append at (c .before .before .before .before .before .before .before .before .before .before .before .before .before .before .before .before .before .before .before .pre .fits)) }
-
-same-length : tie.Need-same-length
-same-length c = search needs
 
 returns : tie.Need-returns
 returns c =
@@ -46,11 +37,11 @@ pub put-ipv4-spec : {M : Type 1} → statement M
 put-ipv4-spec =
     tie.close
     (tie.spec
-    slice-aggregate-put-text
-    put-text-requires
+    (λ c. search needs)
+    (λ c κs. search needs)
     put-dotted-requires
     put-requires
     put-decimal-requires
     put-requires-2
-    same-length
+    (λ c. search needs)
     returns)

@@ -24,9 +24,6 @@ put-requires : tie.Need-put-requires
 unfolding numberLine
 put-requires c κs = record { fits = omega (arith, simp length-append at (c .before .before .before .before .before .before .before .before .before .before .before .pre .fits)) }
 
-same-length : tie.Need-same-length
-same-length c = search needs
-
 returns : tie.Need-returns
 unfolding numberLine
 returns c =
@@ -37,4 +34,8 @@ returns c =
 
 pub put-number-line-spec : {M : Type 1} → statement M
 put-number-line-spec =
-    tie.close (tie.spec put-text-requires put-decimal-requires put-requires same-length returns)
+    tie.close (tie.spec put-text-requires
+    put-decimal-requires
+    put-requires
+    (λ c. search needs)
+    returns)

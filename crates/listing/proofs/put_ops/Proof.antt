@@ -20,29 +20,11 @@ abbrev μ-loop : tie.MeasureT-loop
 loop-holds : tie.Need-loop-holds Inv-loop μ-loop
 loop-holds c = (search needs, left-same (ops-first _ _ _ _) (left-first _ _ _))
 
-add-place : tie.Need-add-place Inv-loop μ-loop
-add-place c = search needs
-
-shared-slice-read-octet : tie.Need-shared-slice-read-octet Inv-loop μ-loop
-shared-slice-read-octet c = search needs
-
-mul-value : tie.Need-mul-value Inv-loop μ-loop
-mul-value c = search needs
-
-shared-slice-read-value : tie.Need-shared-slice-read-value Inv-loop μ-loop
-shared-slice-read-value c = search needs
-
 put-op-requires : tie.Need-put-op-requires Inv-loop μ-loop
 put-op-requires c κs =
     let l = c .before .before .before .before in
     let s = l .before .before .before .before in
     left-placeable _ _ (left-same (ops-more _ _ _ _ _ (search needs)) (l .loop .inv .1)) (s .pre .1 .1)
-
-add-i : tie.Need-add-i Inv-loop μ-loop
-add-i c = search needs
-
-loop-less : tie.Need-loop-less Inv-loop μ-loop
-loop-less c = search needs
 
 loop-again : tie.Need-loop-again Inv-loop μ-loop
 loop-again c =
@@ -63,13 +45,13 @@ put-ops-spec =
     Inv-loop
     μ-loop
     loop-holds
-    add-place
-    shared-slice-read-octet
-    mul-value
-    shared-slice-read-value
+    (λ c. search needs)
+    (λ c. search needs)
+    (λ c. search needs)
+    (λ c. search needs)
     put-op-requires
-    add-i
-    loop-less
+    (λ c. search needs)
+    (λ c. search needs)
     loop-again
     same-length
     returns)

@@ -15,15 +15,6 @@ use Rattle.listing.proofs.put_number_line.Reads as put-number-line-read
 use Rattle.listing.proofs.put_ops.Reads as put-ops-reads
 use Rattle.listing.proofs.put_prefix.Reads as put-prefix-reads
 
-enum-known-piece : tie.Need-enum-known-piece
-enum-known-piece c = search needs
-
-slice-aggregate-put-number-line : tie.Need-slice-aggregate-put-number-line
-slice-aggregate-put-number-line c = search needs
-
-cast-put-number-line : tie.Need-cast-put-number-line
-cast-put-number-line c = search needs
-
 put-number-line-requires : tie.Need-put-number-line-requires
 put-number-line-requires c κs =
     let k = c .before .before .before in
@@ -42,15 +33,6 @@ put-prefix-requires c κs =
     let r = placeable-same (ap (pieceLines (a .values .now) (a .octets .now)) (g .1)) (s .pre .1) in
     placeable-rest _ (prefixLine (g .0 .1 .0)) (c .before .before .before .put-number-line .ensures) r
 
-enum-known-piece-2 : tie.Need-enum-known-piece-2
-enum-known-piece-2 c = search needs
-
-slice-aggregate-put-number-line-2 : tie.Need-slice-aggregate-put-number-line-2
-slice-aggregate-put-number-line-2 c = search needs
-
-cast-put-number-line-2 : tie.Need-cast-put-number-line-2
-cast-put-number-line-2 c = search needs
-
 put-number-line-requires-2 : tie.Need-put-number-line-requires-2
 put-number-line-requires-2 c κs =
     let k = c .before .before .before in
@@ -59,9 +41,6 @@ put-number-line-requires-2 c κs =
     let g = k .piece2 .given in
     let r = placeable-same (ap (pieceLines (a .values .now) (a .octets .now)) (g .1)) (s .pre .1) in
     placeable-first (typeLine (g .0 .0)) (opsLine (g .0 .1 .1 .0)) (placeable-first (typeLine (g .0 .0) ++ opsLine (g .0 .1 .1 .0)) (opLines (opsIn (a .values .now) (a .octets .now) (g .0 .1 .0) (g .0 .1 .1 .0))) r)
-
-slice-aggregate-put-number-line-3 : tie.Need-slice-aggregate-put-number-line-3
-slice-aggregate-put-number-line-3 c = search needs
 
 put-number-line-requires-3 : tie.Need-put-number-line-requires-3
 put-number-line-requires-3 c κs =
@@ -83,12 +62,6 @@ put-ops-requires c κs =
     let w = subst (Backed (length (a .values .now)) (length (a .octets .now))) (g .1) (s .pre .0) in
     (w .in-values, (w .in-octets, placeable-rest _ (opLines (opsIn (a .values .now) (a .octets .now) (g .0 .1 .0) (g .0 .1 .1 .0))) (joins _ _ (h .before .before .before .before .before .put-number-line2 .ensures) (h .put-number-line3 .ensures)) r))
 
-enum-told : tie.Need-enum-told
-enum-told c = search needs
-
-same-length : tie.Need-same-length
-same-length c = search needs
-
 returns : tie.Need-returns
 returns c =
     let h = c .before .before in
@@ -96,9 +69,6 @@ returns c =
     let a = k .before .before .before .before .before .args in
     put-same (sym (ap (pieceLines (a .values .now) (a .octets .now)) (k .piece .given .1)))
     (joins _ _ (h .before .before .before .before .put-number-line .ensures) (h .put-prefix .ensures))
-
-same-length-2 : tie.Need-same-length-2
-same-length-2 c = search needs
 
 returns-2 : tie.Need-returns-2
 returns-2 c =
@@ -119,21 +89,21 @@ pub put-piece-spec : {M : Type 1} → statement M
 put-piece-spec =
     tie.close
     (tie.spec
-    enum-known-piece
-    slice-aggregate-put-number-line
-    cast-put-number-line
+    (λ c. search needs)
+    (λ c. search needs)
+    (λ c. search needs)
     put-number-line-requires
     put-prefix-requires
-    enum-known-piece-2
-    slice-aggregate-put-number-line-2
-    cast-put-number-line-2
+    (λ c. search needs)
+    (λ c. search needs)
+    (λ c. search needs)
     put-number-line-requires-2
-    slice-aggregate-put-number-line-3
+    (λ c. search needs)
     put-number-line-requires-3
     put-ops-requires
-    enum-told
-    same-length
+    (λ c. search needs)
+    (λ c. search needs)
     returns
-    same-length-2
+    (λ c. search needs)
     returns-2
     returns-3)

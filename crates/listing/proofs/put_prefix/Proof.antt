@@ -9,25 +9,10 @@ use Rattle.listing.proofs.put_prefix.Reads as reads
 use Rattle.listing.proofs.put_prefix.Lts as lts
 use Rattle.listing.proofs.put_ipv4.Reads as put-ipv4-reads
 
-enum-known-prefix : tie.Need-enum-known-prefix
-enum-known-prefix c = search needs
-
 put-ipv4-requires : tie.Need-put-ipv4-requires
 put-ipv4-requires c κs =
     let k = c .before .before in
     placeable-same (ap prefixLine (k .prefix .given .1)) (k .before .before .before .pre)
-
-enum-told : tie.Need-enum-told
-enum-told c = search needs
-
-enum-told-2 : tie.Need-enum-told-2
-enum-told-2 c = search needs
-
-enum-told-3 : tie.Need-enum-told-3
-enum-told-3 c = search needs
-
-same-length : tie.Need-same-length
-same-length c = search needs
 
 returns : tie.Need-returns
 returns c =
@@ -47,12 +32,12 @@ pub put-prefix-spec : {M : Type 1} → statement M
 put-prefix-spec =
     tie.close
     (tie.spec
-    enum-known-prefix
+    (λ c. search needs)
     put-ipv4-requires
-    enum-told
-    enum-told-2
-    enum-told-3
-    same-length
+    (λ c. search needs)
+    (λ c. search needs)
+    (λ c. search needs)
+    (λ c. search needs)
     returns
     returns-2
     returns-3

@@ -20,21 +20,9 @@ use Rattle.listing.proofs.put_number_line.Reads as put-number-line-read
 use Rattle.listing.proofs.put_text.Reads as put-text-reads
 use Rattle.refusals.proofs.numbered.Reads as numbered-reads
 
-numbered-requires : tie.Need-numbered-requires
-numbered-requires c κs = search needs
-
-slice-aggregate-put-text : tie.Need-slice-aggregate-put-text
-slice-aggregate-put-text c = search needs
-
 put-text-requires : tie.Need-put-text-requires
 unfolding refusalLines
 put-text-requires c κs = search needs
-
-slice-aggregate-put-number-line : tie.Need-slice-aggregate-put-number-line
-slice-aggregate-put-number-line c = search needs
-
-cast-put-number-line : tie.Need-cast-put-number-line
-cast-put-number-line c = search needs
 
 put-number-line-requires : tie.Need-put-number-line-requires
 unfolding refusalLines
@@ -42,9 +30,6 @@ put-number-line-requires c κs =
     let n = c .before .before .before .before .before .before .before .before in
     let s = n .before .before in
     record { fits = omega (arith, simp length-append at (s .pre .fits), ap (λ (x : Numbers). length (numberLine (ascii "status=") (x .number))) (n .numbered .ensures)) }
-
-slice-aggregate-put-text-2 : tie.Need-slice-aggregate-put-text-2
-slice-aggregate-put-text-2 c = search needs
 
 put-text-requires-2 : tie.Need-put-text-requires-2
 unfolding refusalLines
@@ -71,9 +56,6 @@ put-requires c κs =
     let s = n .before .before in
     record { fits = omega (arith, simp length-append at (s .pre .fits), ap (λ (x : Numbers). length (numberLine (ascii "status=") (x .number))) (n .numbered .ensures), ap (λ (ns : List ℕ). length (commas ns)) (carried-in (s .args .fault .error) (n .numbered .ensures)), h1 .put-text .ensures .place, h2 .put-number-line .ensures .place, h3 .put-text2 .ensures .place, h4 .put-carried .ensures .place) }
 
-same-length : tie.Need-same-length
-same-length c = search needs
-
 returns : tie.Need-returns
 unfolding refusalLines
 returns c =
@@ -91,15 +73,15 @@ pub put-refusal-spec : {M : Type 1} → statement M
 put-refusal-spec =
     tie.close
     (tie.spec
-    numbered-requires
-    slice-aggregate-put-text
+    (λ c κs. search needs)
+    (λ c. search needs)
     put-text-requires
-    slice-aggregate-put-number-line
-    cast-put-number-line
+    (λ c. search needs)
+    (λ c. search needs)
     put-number-line-requires
-    slice-aggregate-put-text-2
+    (λ c. search needs)
     put-text-requires-2
     put-carried-requires
     put-requires
-    same-length
+    (λ c. search needs)
     returns)

@@ -21,32 +21,17 @@ use Rattle.stored.proofs.count_at.Reads as count-at-reads
 count-line : (ws : List ℕ) {n : ℕ} → n ≡ countAt ws 0 → componentsLine n ≡ componentsLine (length (storedAt ws 0 .pieces))
 count-line ws e = ap componentsLine (e ∙ sym (length-pieces (countAt ws 0) ws 0))
 
-slice-aggregate-put-text : tie.Need-slice-aggregate-put-text
-slice-aggregate-put-text c = search needs
-
 put-text-requires : tie.Need-put-text-requires
 unfolding ruleLines
 put-text-requires c κs = search needs
-
-slice-aggregate-put-number-line : tie.Need-slice-aggregate-put-number-line
-slice-aggregate-put-number-line c = search needs
 
 put-number-line-requires : tie.Need-put-number-line-requires
 unfolding ruleLines
 put-number-line-requires c κs = record { fits = omega (arith, simp length-append at (c .before .before .before .before .before .before .before .before .before .before .before .pre .1 .fits)) }
 
-slice-aggregate-put-number-line-2 : tie.Need-slice-aggregate-put-number-line-2
-slice-aggregate-put-number-line-2 c = search needs
-
 put-number-line-requires-2 : tie.Need-put-number-line-requires-2
 unfolding ruleLines
 put-number-line-requires-2 c κs = record { fits = omega (arith, simp length-append at (c .before .before .before .before .before .before .before .before .before .before .before .before .before .before .before .before .pre .1 .fits)) }
-
-slice-aggregate-put-number-line-3 : tie.Need-slice-aggregate-put-number-line-3
-slice-aggregate-put-number-line-3 c = search needs
-
-count-at-requires : tie.Need-count-at-requires
-count-at-requires c κs = search needs
 
 put-number-line-requires-3 : tie.Need-put-number-line-requires-3
 unfolding ruleLines
@@ -59,9 +44,6 @@ unfolding ruleLines
 put-components-requires c κs =
     let s = c .before .before .before .before .before .before .before .before .before .before .before .before .before .before .before .before .before .before .before .before .before .before .before .before .before .before in
     (s .pre .0, record { fits = omega (arith, simp length-append at (s .pre .1 .fits), ap length (count-line (s .args .words .now) (c .before .before .before .before .before .count-at .ensures))) })
-
-same-length : tie.Need-same-length
-same-length c = search needs
 
 returns : tie.Need-returns
 unfolding ruleLines
@@ -79,15 +61,15 @@ pub put-rule-spec : {M : Type 1} → statement M
 put-rule-spec =
     tie.close
     (tie.spec
-    slice-aggregate-put-text
+    (λ c. search needs)
     put-text-requires
-    slice-aggregate-put-number-line
+    (λ c. search needs)
     put-number-line-requires
-    slice-aggregate-put-number-line-2
+    (λ c. search needs)
     put-number-line-requires-2
-    slice-aggregate-put-number-line-3
-    count-at-requires
+    (λ c. search needs)
+    (λ c κs. search needs)
     put-number-line-requires-3
     put-components-requires
-    same-length
+    (λ c. search needs)
     returns)

@@ -11,18 +11,6 @@ use Rattle.reading.proofs.read_into.Reads as read-into-reads
 returns : tie.Need-returns
 returns c = rw (over-long (c .before .before .before .before .before .args .input .now) (c .if1 .taken)) (refl, (refl, (refl, refl)))
 
-read-into-requires : tie.Need-read-into-requires
-read-into-requires c κs = search needs
-
-same-length : tie.Need-same-length
-same-length c = search needs
-
-same-length-2 : tie.Need-same-length-2
-same-length-2 c = search needs
-
-same-length-3 : tie.Need-same-length-3
-same-length-3 c = search needs
-
 returns-2 : tie.Need-returns-2
 returns-2 c =
     let h = c .before .before .before .before .before .before in
@@ -32,4 +20,9 @@ returns-2 c =
 pub read-listed-spec : {M : Type 1} → statement M
 read-listed-spec =
     tie.close
-    (tie.spec returns read-into-requires same-length same-length-2 same-length-3 returns-2)
+    (tie.spec returns
+    (λ c κs. search needs)
+    (λ c. search needs)
+    (λ c. search needs)
+    (λ c. search needs)
+    returns-2)

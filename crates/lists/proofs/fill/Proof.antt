@@ -17,14 +17,8 @@ use Rattle.lists.proofs.fill_on.Reads as fill-on-reads
 use Rattle.octets.proofs.read_value.Reads as read-value-reads
 use Rattle.octets.proofs.stride.Reads as stride-reads
 
-kind-of-requires : tie.Need-kind-of-requires
-kind-of-requires c κs = search needs
-
 shared-slice-read-octet : tie.Need-shared-slice-read-octet
 shared-slice-read-octet c = omega (arith, whole-in _ _ (whole-first _ _ _ _ (c .before .before .before .before .before .pre .0)))
-
-stride-requires : tie.Need-stride-requires
-stride-requires c κs = search needs
 
 abbrev start-of : tie.After-stride → tie.Start
 start-of c = c .before .before .before .before .before .before
@@ -39,21 +33,12 @@ add-read-value c = omega (arith, here c, start-of c .good)
 read-value-requires : tie.Need-read-value-requires
 read-value-requires c κs = (omega arith, omega (arith, here c, c .stride .ensures))
 
-mul-values : tie.Need-mul-values
-mul-values c = search needs
-
 -- there is room for it
 has-room : (c : tie.Start) → (c .args .start < length (c .args .values .now)) × (c .args .start < length (c .args .octets .now))
 has-room c = room-first _ _ _ _ (c .pre .0) _ (c .args .values .now) (c .args .octets .now) (c .pre .1)
 
 slice-write-values : tie.Need-slice-write-values
 slice-write-values c = has-room (start-of (c .before)) .0
-
-cleared-requires : tie.Need-cleared-requires
-cleared-requires c κs = search needs
-
-first-requires : tie.Need-first-requires
-first-requires c κs = search needs
 
 slice-write-octets : tie.Need-slice-write-octets
 slice-write-octets c = has-room (start-of (c .before .before .before)) .1
@@ -63,12 +48,6 @@ add-next c = let e = c .before .before .before in omega (arith, here e, start-of
 
 add-next-2 : tie.Need-add-next-2
 add-next-2 c = let e = c .before .before .before in omega (arith, here e, start-of e .good)
-
-same-length : tie.Need-same-length
-same-length c = search needs
-
-same-length-2 : tie.Need-same-length-2
-same-length-2 c = search needs
 
 returns : tie.Need-returns
 returns c =
@@ -113,20 +92,20 @@ pub fill-spec : {M : Type 1} → statement M
 fill-spec =
     tie.close
     (tie.spec
-    kind-of-requires
+    (λ c κs. search needs)
     shared-slice-read-octet
-    stride-requires
+    (λ c κs. search needs)
     add-read-value
     read-value-requires
-    mul-values
+    (λ c. search needs)
     slice-write-values
-    cleared-requires
-    first-requires
+    (λ c κs. search needs)
+    (λ c κs. search needs)
     slice-write-octets
     add-next
     add-next-2
-    same-length
-    same-length-2
+    (λ c. search needs)
+    (λ c. search needs)
     returns
     fill-on-requires
     same-length-3

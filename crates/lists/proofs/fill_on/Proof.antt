@@ -69,9 +69,6 @@ mul-values c =
 slice-write-values : tie.Need-slice-write-values Inv-loop μ-loop
 slice-write-values c = room (ran (run-of (c .before))) .0
 
-cleared-requires : tie.Need-cleared-requires Inv-loop μ-loop
-cleared-requires c κs = search needs
-
 slice-write-octets : tie.Need-slice-write-octets Inv-loop μ-loop
 slice-write-octets c = room (ran (run-of (c .before .before))) .1
 
@@ -122,7 +119,7 @@ fill-on-spec =
     read-value-requires
     mul-values
     slice-write-values
-    cleared-requires
+    (λ c κs. search needs)
     slice-write-octets
     add-c
     add-i

@@ -77,9 +77,6 @@ mul-values c =
 slice-write-values : tie.Need-slice-write-values Inv-loop μ-loop
 slice-write-values c = room (turn-of (c .before) .loop .inv) .0
 
-cleared-requires : tie.Need-cleared-requires Inv-loop μ-loop
-cleared-requires c κs = search needs
-
 slice-write-octets : tie.Need-slice-write-octets Inv-loop μ-loop
 slice-write-octets c = room (turn-of (c .before .before) .loop .inv) .1
 
@@ -119,7 +116,7 @@ fill-run-spec =
     read-value-requires
     mul-values
     slice-write-values
-    cleared-requires
+    (λ c κs. search needs)
     slice-write-octets
     add-c
     add-i

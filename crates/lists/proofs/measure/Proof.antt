@@ -29,12 +29,6 @@ Inv-loop s tag bound i₀ n₀ i n = (n ≤ i) × ((r : Reading) (t : ℕ) → b
 abbrev μ-loop : tie.MeasureT-loop
 μ-loop s tag bound i₀ n₀ i n = length s - i
 
-kind-of-requires : tie.Need-kind-of-requires Inv-loop μ-loop
-kind-of-requires c κs = search needs
-
-limit-requires : tie.Need-limit-requires Inv-loop μ-loop
-limit-requires c κs = search needs
-
 loop-holds : tie.Need-loop-holds Inv-loop μ-loop
 loop-holds c = (omega arith, λ r t is-bound. rest-first r t _ _)
 
@@ -52,9 +46,6 @@ returns c = sym (so-far (c .before) ∙ rest-missing _ _ _ _ _ (c .if1 .taken))
 
 shared-slice-read-octet : tie.Need-shared-slice-read-octet Inv-loop μ-loop
 shared-slice-read-octet c = omega arith
-
-width-requires : tie.Need-width-requires Inv-loop μ-loop
-width-requires c κs = search needs
 
 add-from : tie.Need-add-from Inv-loop μ-loop
 add-from c = omega (arith, c .before .before .before .before .before .before .before .good)
@@ -125,12 +116,12 @@ measure-spec =
     (tie.spec
     Inv-loop
     μ-loop
-    kind-of-requires
-    limit-requires
+    (λ c κs. search needs)
+    (λ c κs. search needs)
     loop-holds
     returns
     shared-slice-read-octet
-    width-requires
+    (λ c κs. search needs)
     add-from
     sub-if2
     returns-2

@@ -1,5 +1,5 @@
 -- `listwriting::add_all` meets its contract, which is the invariant: each block is a part of the chain.
-use Prim.Native.Nat.{ℕ, _+_, _-_, _≤_}
+use Prim.Native.Nat.{_-_, _≤_}
 use mathlib.Core.Path.{_≡_}
 use native.Mathlib.Omega.{arith}
 use Rattle.listwriting.specs.Runs.{nothing, Adds}
@@ -21,17 +21,11 @@ abbrev μ-loop : tie.MeasureT-loop
 loop-holds : tie.Need-loop-holds Inv-loop μ-loop
 loop-holds c = (omega arith, omega arith, adds-none _ _ _ _)
 
-block-end-requires : tie.Need-block-end-requires Inv-loop μ-loop
-block-end-requires c κs = search needs
-
 add-block-requires : tie.Need-add-block-requires Inv-loop μ-loop
 add-block-requires c κs =
     let l = c .before .before in
     let s = l .before .before .before in
     ((omega arith, omega arith, omega arith), omega (arith, l .loop .inv .2 .most, s .pre .3))
-
-loop-less : tie.Need-loop-less Inv-loop μ-loop
-loop-less c = search needs
 
 loop-again : tie.Need-loop-again Inv-loop μ-loop
 loop-again c =
@@ -53,8 +47,8 @@ add-all-spec =
     Inv-loop
     μ-loop
     loop-holds
-    block-end-requires
+    (λ c κs. search needs)
     add-block-requires
-    loop-less
+    (λ c. search needs)
     loop-again
     returns)

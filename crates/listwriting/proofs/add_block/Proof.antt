@@ -1,5 +1,5 @@
 -- `listwriting::add_block` meets its contract: 16 operators that are alike are 16 links of the chain at once.
-use Prim.Native.Nat.{ℕ, _+_, _-_, _*_, _<_}
+use Prim.Native.Nat.{_+_, _-_, _<_}
 use mathlib.Core.Path.{_≡_}
 use native.Mathlib.Omega.{arith}
 use lib.ListN.{getD}
@@ -14,36 +14,6 @@ use Rattle.listwriting.proofs.add_block.Lts as lts
 use Rattle.listwriting.proofs.add_each.Reads as add-each-reads
 use Rattle.listwriting.proofs.alike.Reads as alike-reads
 use Rattle.listwriting.proofs.joined.Reads as joined-reads
-
-sub-if1 : tie.Need-sub-if1
-sub-if1 c = search needs
-
-shared-slice-read-code : tie.Need-shared-slice-read-code
-shared-slice-read-code c = search needs
-
-alike-requires : tie.Need-alike-requires
-alike-requires c κs = search needs
-
-joined-requires : tie.Need-joined-requires
-joined-requires c κs = search needs
-
-cast-t15 : tie.Need-cast-t15
-cast-t15 c = search needs
-
-mul-t16 : tie.Need-mul-t16
-mul-t16 c = search needs
-
-array-read-t19 : tie.Need-array-read-t19
-array-read-t19 c = search needs
-
-cast-t23 : tie.Need-cast-t23
-cast-t23 c = search needs
-
-mul-t24 : tie.Need-mul-t24
-mul-t24 c = search needs
-
-array-read-t27 : tie.Need-array-read-t27
-array-read-t27 c = search needs
 
 mul-t28 : tie.Need-mul-t28
 mul-t28 c =
@@ -66,28 +36,22 @@ returns c =
     let e : s .args .from + 16 ≡ s .args .to = omega arith in
     rw e at (adds-alike (s .args .values .now) (s .args .octets .now) (codeIn (getD (s .args .octets .now) (s .args .from) 0)) (s .args .from) k (a .alike .ensures (j .before .if2 .taken)) (j .joined .result) (j .joined .ensures) (omega (arith, j .joined .ok)) (s .args .sum .over) (s .args .sum .marks) (s .args .sum .size))
 
-add-each-requires : tie.Need-add-each-requires
-add-each-requires c κs = search needs
-
-returns-2 : tie.Need-returns-2
-returns-2 c = search needs
-
 pub add-block-spec : {M : Type 1} → statement M
 add-block-spec =
     tie.close
     (tie.spec
-    sub-if1
-    shared-slice-read-code
-    alike-requires
-    joined-requires
-    cast-t15
-    mul-t16
-    array-read-t19
-    cast-t23
-    mul-t24
-    array-read-t27
+    (λ c. search needs)
+    (λ c. search needs)
+    (λ c κs. search needs)
+    (λ c κs. search needs)
+    (λ c. search needs)
+    (λ c. search needs)
+    (λ c. search needs)
+    (λ c. search needs)
+    (λ c. search needs)
+    (λ c. search needs)
     mul-t28
     add-t29
     returns
-    add-each-requires
-    returns-2)
+    (λ c κs. search needs)
+    (λ c. search needs))

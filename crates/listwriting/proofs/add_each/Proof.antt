@@ -1,5 +1,5 @@
 -- `listwriting::add_each` meets its contract, which is the invariant: each operator is a link of the chain.
-use Prim.Native.Nat.{ℕ, _+_, _-_, _≤_, _<_}
+use Prim.Native.Nat.{_-_, _≤_, _<_}
 use mathlib.Core.Path.{_≡_}
 use native.Mathlib.Omega.{arith}
 use lib.ListN.{getD}
@@ -22,42 +22,12 @@ abbrev μ-loop : tie.MeasureT-loop
 loop-holds : tie.Need-loop-holds Inv-loop μ-loop
 loop-holds c = (omega arith, omega arith, adds-none _ _ _ _)
 
-shared-slice-read-octet : tie.Need-shared-slice-read-octet Inv-loop μ-loop
-shared-slice-read-octet c = search needs
-
-cast-code : tie.Need-cast-code Inv-loop μ-loop
-cast-code c = search needs
-
-mul-over : tie.Need-mul-over Inv-loop μ-loop
-mul-over c = search needs
-
-shared-slice-read-over : tie.Need-shared-slice-read-over Inv-loop μ-loop
-shared-slice-read-over c = search needs
-
-mul-over-2 : tie.Need-mul-over-2 Inv-loop μ-loop
-mul-over-2 c = search needs
-
-array-read-over : tie.Need-array-read-over Inv-loop μ-loop
-array-read-over c = search needs
-
-mul-n : tie.Need-mul-n Inv-loop μ-loop
-mul-n c = search needs
-
-array-read-n : tie.Need-array-read-n Inv-loop μ-loop
-array-read-n c = search needs
-
 add-n : tie.Need-add-n Inv-loop μ-loop
 add-n c =
     let l = c .before .before .before in
     let o = getD (l .before .args .octets .now) (l .loop .q) 0 in
     let k : codeIn o < 4 = omega arith in
     omega (arith, l .loop .inv .2 .most, octets-by (codeIn o) k, width-range (codeIn o) k .1)
-
-add-q : tie.Need-add-q Inv-loop μ-loop
-add-q c = search needs
-
-loop-less : tie.Need-loop-less Inv-loop μ-loop
-loop-less c = search needs
 
 loop-again : tie.Need-loop-again Inv-loop μ-loop
 loop-again c =
@@ -78,16 +48,16 @@ add-each-spec =
     Inv-loop
     μ-loop
     loop-holds
-    shared-slice-read-octet
-    cast-code
-    mul-over
-    shared-slice-read-over
-    mul-over-2
-    array-read-over
-    mul-n
-    array-read-n
+    (λ c. search needs)
+    (λ c. search needs)
+    (λ c. search needs)
+    (λ c. search needs)
+    (λ c. search needs)
+    (λ c. search needs)
+    (λ c. search needs)
+    (λ c. search needs)
     add-n
-    add-q
-    loop-less
+    (λ c. search needs)
+    (λ c. search needs)
     loop-again
     returns)

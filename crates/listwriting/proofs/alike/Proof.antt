@@ -1,5 +1,5 @@
 -- `listwriting::alike` meets its contract. The invariant: it holds of the octets so far.
-use Prim.Native.Nat.{ℕ, _+_, _-_, _≤_}
+use Prim.Native.Nat.{_+_, _-_}
 use mathlib.Core.Path.{_≡_}
 use mathlib.Core.Bool.{true}
 use native.Mathlib.Omega.{arith}
@@ -20,24 +20,6 @@ abbrev μ-loop : tie.MeasureT-loop
 loop-holds : tie.Need-loop-holds Inv-loop μ-loop
 loop-holds c e i f t = absurd (omega arith)
 
-add-same : tie.Need-add-same Inv-loop μ-loop
-add-same c = search needs
-
-shared-slice-read-same : tie.Need-shared-slice-read-same Inv-loop μ-loop
-shared-slice-read-same c = search needs
-
-add-same-2 : tie.Need-add-same-2 Inv-loop μ-loop
-add-same-2 c = search needs
-
-shared-slice-read-same-2 : tie.Need-shared-slice-read-same-2 Inv-loop μ-loop
-shared-slice-read-same-2 c = search needs
-
-add-k : tie.Need-add-k Inv-loop μ-loop
-add-k c = search needs
-
-loop-less : tie.Need-loop-less Inv-loop μ-loop
-loop-less c = search needs
-
 loop-again : tie.Need-loop-again Inv-loop μ-loop
 loop-again c e i f t =
     let l = c .before .before .before in
@@ -54,11 +36,11 @@ alike-spec =
     Inv-loop
     μ-loop
     loop-holds
-    add-same
-    shared-slice-read-same
-    add-same-2
-    shared-slice-read-same-2
-    add-k
-    loop-less
+    (λ c. search needs)
+    (λ c. search needs)
+    (λ c. search needs)
+    (λ c. search needs)
+    (λ c. search needs)
+    (λ c. search needs)
     loop-again
     returns)

@@ -1,12 +1,7 @@
 -- `listwriting::put_list` meets its contract. `Put` is the invariant; each run is a link of the chain.
-use Prim.Native.Nat.{ℕ, _+_, _-_, _≤_}
-use mathlib.Core.Path.{_≡_, refl, sym, ap, _∙_}
-use mathlib.Core.List.{List}
+use Prim.Native.Nat.{ℕ, _+_, _-_}
+use mathlib.Core.Path.{_≡_}
 use native.Mathlib.Omega.{arith}
-use lib.ListN.{length}
-use lib.Seq.{sets}
-use Rattle.operators.specs.Ops.{opsIn, listOctets}
-use Rattle.listwriting.specs.Lists.{sizeIn}
 use Rattle.listwriting.specs.Runs.{Put}
 use Rattle.listwriting.proofs.Puts.{put-first, put-end, put-chain, put-left}
 use borrow.Author.Needs.{needs}
@@ -24,9 +19,6 @@ Inv-loop kind values octets from count out₀ at to p₀ q₀ out p q = Put kind
 
 abbrev μ-loop : tie.MeasureT-loop
 μ-loop kind values octets from count out₀ at to p₀ q₀ out p q = to - q
-
-add-to : tie.Need-add-to Inv-loop μ-loop
-add-to c = search needs
 
 loop-holds : tie.Need-loop-holds Inv-loop μ-loop
 loop-holds c = put-first _ _ _ _ _ _ _ (omega arith)
@@ -62,7 +54,7 @@ put-list-spec =
     (tie.spec
     Inv-loop
     μ-loop
-    add-to
+    (λ c. search needs)
     loop-holds
     put-same-requires
     loop-less

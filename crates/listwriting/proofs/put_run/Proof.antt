@@ -1,10 +1,9 @@
 -- `listwriting::put_run` meets its contract. `Put` is the invariant, while the next operator has the width.
-use Prim.Native.Nat.{ℕ, _+_, _-_, _<_}
-use mathlib.Core.Path.{_≡_, refl, sym, ap, _∙_}
+use Prim.Native.Nat.{_-_, _<_}
+use mathlib.Core.Path.{_≡_}
 use native.Mathlib.Omega.{arith}
-use lib.ListN.{length, getD, length-set}
-use Rattle.octets.specs.Widths.{codeIn, widths}
-use Rattle.octets.proofs.Widths.{width-range}
+use lib.ListN.{getD, length-set}
+use Rattle.octets.specs.Widths.{codeIn}
 use Rattle.listwriting.specs.Runs.{Put}
 use Rattle.listwriting.proofs.Puts.{put-first, put-room, put-more}
 use borrow.Author.Needs.{needs}
@@ -24,12 +23,6 @@ abbrev μ-loop : tie.MeasureT-loop
 loop-holds : tie.Need-loop-holds Inv-loop μ-loop
 loop-holds c = (put-first _ _ _ _ _ _ _ (omega arith), omega arith, c .before .before .before .pre .1 .0 .0)
 
-shared-slice-read-cleared : tie.Need-shared-slice-read-cleared Inv-loop μ-loop
-shared-slice-read-cleared c = search needs
-
-cleared-requires : tie.Need-cleared-requires Inv-loop μ-loop
-cleared-requires c κs = search needs
-
 slice-write-out : tie.Need-slice-write-out Inv-loop μ-loop
 slice-write-out c =
     let l = c .before .before in
@@ -41,12 +34,6 @@ add-write-value c =
     let l = c .before .before .before in
     let s = l .before .before .before .before in
     omega (arith, put-room _ _ _ _ _ _ _ (l .loop .inv .0) _ _ (s .pre .1 .0 .1) (l .loop .inv .1) (l .loop .inv .2) (s .pre .1 .1))
-
-mul-write-value : tie.Need-mul-write-value Inv-loop μ-loop
-mul-write-value c = search needs
-
-shared-slice-read-write-value : tie.Need-shared-slice-read-write-value Inv-loop μ-loop
-shared-slice-read-write-value c = search needs
 
 write-value-requires : tie.Need-write-value-requires Inv-loop μ-loop
 write-value-requires c κs =
@@ -66,9 +53,6 @@ add-p-2 c =
     let s = l .before .before .before .before in
     omega (arith, put-room _ _ _ _ _ _ _ (l .loop .inv .0) _ _ (s .pre .1 .0 .1) (l .loop .inv .1) (l .loop .inv .2) (s .pre .1 .1), s .pre .1 .0 .1)
 
-add-q : tie.Need-add-q Inv-loop μ-loop
-add-q c = search needs
-
 same-length : tie.Need-same-length Inv-loop μ-loop
 same-length c =
     let w = c .before .before .before in
@@ -82,9 +66,6 @@ returns c =
     let l = w .before .before .before .before .before in
     let s = l .before .before .before .before in
     (put-more _ _ _ _ _ _ _ (l .loop .inv .0) _ _ (s .pre .1 .0 .1) (l .loop .inv .1) (l .loop .inv .2) (w .before .before .before .cleared .ensures) (w .write-value .ensures), omega (arith, l .loop .inv .0 .least))
-
-shared-slice-read-if2 : tie.Need-shared-slice-read-if2 Inv-loop μ-loop
-shared-slice-read-if2 c = search needs
 
 same-length-2 : tie.Need-same-length-2 Inv-loop μ-loop
 same-length-2 c =
@@ -100,9 +81,6 @@ returns-2 c =
     let s = l .before .before .before .before in
     (put-more _ _ _ _ _ _ _ (l .loop .inv .0) _ _ (s .pre .1 .0 .1) (l .loop .inv .1) (l .loop .inv .2) (w .before .before .before .cleared .ensures) (w .write-value .ensures), omega (arith, l .loop .inv .0 .least))
 
-loop-less : tie.Need-loop-less Inv-loop μ-loop
-loop-less c = search needs
-
 loop-again : tie.Need-loop-again Inv-loop μ-loop
 loop-again c =
     let w = c .before .before .before .before .before in
@@ -117,20 +95,20 @@ put-run-spec =
     Inv-loop
     μ-loop
     loop-holds
-    shared-slice-read-cleared
-    cleared-requires
+    (λ c. search needs)
+    (λ c κs. search needs)
     slice-write-out
     add-write-value
-    mul-write-value
-    shared-slice-read-write-value
+    (λ c. search needs)
+    (λ c. search needs)
     write-value-requires
     add-p
     add-p-2
-    add-q
+    (λ c. search needs)
     same-length
     returns
-    shared-slice-read-if2
+    (λ c. search needs)
     same-length-2
     returns-2
-    loop-less
+    (λ c. search needs)
     loop-again)

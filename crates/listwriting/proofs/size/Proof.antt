@@ -1,9 +1,9 @@
 -- `listwriting::size` meets its contract. The invariant: what was counted and what is left are the whole, where each operator's own octet is counted
 -- ahead.
-use Prim.Native.Nat.{ℕ, _+_, _-_, _*_, _≤_}
-use mathlib.Core.Path.{_≡_, refl, ap}
+use Prim.Native.Nat.{_+_, _-_, _*_, _≤_}
+use mathlib.Core.Path.{_≡_, refl}
 use native.Mathlib.Omega.{arith}
-use lib.ListN.{length, getD}
+use lib.ListN.{getD}
 use Rattle.octets.specs.Widths.{widthOf}
 use Rattle.octets.proofs.Widths.{width-most}
 use Rattle.listwriting.specs.Lists.{sizeIn}
@@ -21,31 +21,16 @@ Inv-loop octets from count to n₀ q₀ n q = (to ≡ from + count) × (from ≤
 abbrev μ-loop : tie.MeasureT-loop
 μ-loop octets from count to n₀ q₀ n q = to - q
 
-add-to : tie.Need-add-to Inv-loop μ-loop
-add-to c = search needs
-
 loop-holds : tie.Need-loop-holds Inv-loop μ-loop
 loop-holds c =
     let a = c .before .args in
     let e : a .from + a .count - a .from ≡ a .count = omega arith in
     (refl, omega arith, omega arith, omega arith, rw e (omega arith))
 
-shared-slice-read-stride : tie.Need-shared-slice-read-stride Inv-loop μ-loop
-shared-slice-read-stride c = search needs
-
-stride-requires : tie.Need-stride-requires Inv-loop μ-loop
-stride-requires c κs = search needs
-
 add-n : tie.Need-add-n Inv-loop μ-loop
 add-n c =
     let l = c .before .before .before in
     omega (arith, c .stride .ensures, width-most (getD (l .before .before .args .octets .now) (l .loop .q) 0))
-
-add-q : tie.Need-add-q Inv-loop μ-loop
-add-q c = search needs
-
-loop-less : tie.Need-loop-less Inv-loop μ-loop
-loop-less c = search needs
 
 loop-again : tie.Need-loop-again Inv-loop μ-loop
 loop-again c =
@@ -68,12 +53,12 @@ size-spec =
     (tie.spec
     Inv-loop
     μ-loop
-    add-to
+    (λ c. search needs)
     loop-holds
-    shared-slice-read-stride
-    stride-requires
+    (λ c. search needs)
+    (λ c κs. search needs)
     add-n
-    add-q
-    loop-less
+    (λ c. search needs)
+    (λ c. search needs)
     loop-again
     returns)

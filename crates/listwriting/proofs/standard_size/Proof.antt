@@ -1,5 +1,5 @@
 -- `listwriting::standard_size` meets its contract: what was joined, and the last operator, are the test of the whole list.
-use Prim.Native.Nat.{ℕ, _+_, _-_}
+use Prim.Native.Nat.{_+_, _-_}
 use mathlib.Core.Path.{_≡_, sym, _∙_}
 use native.Mathlib.Omega.{arith}
 use Rattle.listwriting.proofs.Ends.{none-taken, and-first, size-right, size-wrong}
@@ -14,44 +14,8 @@ use Rattle.listwriting.proofs.add_all.Reads as add-all-reads
 returns : tie.Need-returns
 returns c = none-taken _ _ _ _ (c .if1 .taken)
 
-shared-slice-read-if2 : tie.Need-shared-slice-read-if2
-shared-slice-read-if2 c = search needs
-
 returns-2 : tie.Need-returns-2
 returns-2 c = and-first _ _ _ _ (omega arith) (c .if2 .taken)
-
-add-last : tie.Need-add-last
-add-last c = search needs
-
-sub-last : tie.Need-sub-last
-sub-last c = search needs
-
-add-all-requires : tie.Need-add-all-requires
-add-all-requires c κs = search needs
-
-shared-slice-read-octet : tie.Need-shared-slice-read-octet
-shared-slice-read-octet c = search needs
-
-cast-code : tie.Need-cast-code
-cast-code c = search needs
-
-mul-over : tie.Need-mul-over
-mul-over c = search needs
-
-shared-slice-read-over : tie.Need-shared-slice-read-over
-shared-slice-read-over c = search needs
-
-mul-over-2 : tie.Need-mul-over-2
-mul-over-2 c = search needs
-
-array-read-over : tie.Need-array-read-over
-array-read-over c = search needs
-
-mul-t30 : tie.Need-mul-t30
-mul-t30 c = search needs
-
-array-read-t33 : tie.Need-array-read-t33
-array-read-t33 c = search needs
 
 add-t34 : tie.Need-add-t34
 add-t34 c =
@@ -84,19 +48,19 @@ standard-size-spec =
     tie.close
     (tie.spec
     returns
-    shared-slice-read-if2
+    (λ c. search needs)
     returns-2
-    add-last
-    sub-last
-    add-all-requires
-    shared-slice-read-octet
-    cast-code
-    mul-over
-    shared-slice-read-over
-    mul-over-2
-    array-read-over
-    mul-t30
-    array-read-t33
+    (λ c. search needs)
+    (λ c. search needs)
+    (λ c κs. search needs)
+    (λ c. search needs)
+    (λ c. search needs)
+    (λ c. search needs)
+    (λ c. search needs)
+    (λ c. search needs)
+    (λ c. search needs)
+    (λ c. search needs)
+    (λ c. search needs)
     add-t34
     returns-3
     returns-4)

@@ -10,11 +10,11 @@ returns c = outside _ _ _ _ (c .if1 .taken)
 returns-2 : tie.Need-returns-2
 returns-2 c = outside' _ _ _ _ (c .before .if1 .left) (c .if2 .taken)
 
-sub-result : tie.Need-sub-result
-sub-result c = search needs
-
 returns-3 : tie.Need-returns-3
 returns-3 c = within _ _ _ _ (c .before .if1 .left) (c .if2 .left)
 
 pub inside-spec : {M : Type 1} → statement M
-inside-spec = tie.close (tie.spec returns returns-2 sub-result returns-3)
+inside-spec = tie.close (tie.spec returns
+    returns-2
+    (λ c. search needs)
+    returns-3)

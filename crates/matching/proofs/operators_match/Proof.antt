@@ -7,14 +7,8 @@ use Rattle.matching.proofs.Pieces.{in-room, not-in-values, not-in-octet
 use Rattle.matching.proofs.operators_match.Statement.{statement}
 use Rattle.matching.proofs.operators_match.Tie as tie
 
-inside-requires : tie.Need-inside-requires
-inside-requires c κs = search needs
-
 returns : tie.Need-returns
 returns c = not-in-values _ _ _ _ _ _ _ _ (c .before .inside .ensures) (c .if1 .taken)
-
-inside-requires-2 : tie.Need-inside-requires-2
-inside-requires-2 c κs = search needs
 
 returns-2 : tie.Need-returns-2
 returns-2 c = let e = c .before .before in not-in-octets _ _ _ _ _ _ _ _ (e .before .inside .ensures) (e .if1 .left) _ (c .before .inside2 .ensures) (c .if2 .taken)
@@ -32,9 +26,9 @@ pub operators-match-spec : {M : Type 1} → statement M
 operators-match-spec =
     tie.close
     (tie.spec
-    inside-requires
+    (λ c κs. search needs)
     returns
-    inside-requires-2
+    (λ c κs. search needs)
     returns-2
     add-some-matches
     some-matches-requires

@@ -5,24 +5,6 @@ use Rattle.matching.proofs.Pieces.{by-prefix, by-list, no-record}
 use Rattle.matching.proofs.piece_matches.Statement.{statement}
 use Rattle.matching.proofs.piece_matches.Tie as tie
 
-enum-known-piece : tie.Need-enum-known-piece
-enum-known-piece c = search needs
-
-address-of-requires : tie.Need-address-of-requires
-address-of-requires c κs = search needs
-
-prefix-matches-requires : tie.Need-prefix-matches-requires
-prefix-matches-requires c κs = search needs
-
-enum-known-piece-2 : tie.Need-enum-known-piece-2
-enum-known-piece-2 c = search needs
-
-operators-match-requires : tie.Need-operators-match-requires
-operators-match-requires c κs = search needs
-
-enum-told : tie.Need-enum-told
-enum-told c = search needs
-
 returns : tie.Need-returns
 returns c = c .prefix-matches .ensures ∙ by-prefix _ _ _ _ _ _ _ _ (c .before .before .before .piece .given .1) (c .before .address-of .ensures)
 
@@ -36,12 +18,12 @@ pub piece-matches-spec : {M : Type 1} → statement M
 piece-matches-spec =
     tie.close
     (tie.spec
-    enum-known-piece
-    address-of-requires
-    prefix-matches-requires
-    enum-known-piece-2
-    operators-match-requires
-    enum-told
+    (λ c. search needs)
+    (λ c κs. search needs)
+    (λ c κs. search needs)
+    (λ c. search needs)
+    (λ c κs. search needs)
+    (λ c. search needs)
     returns
     returns-2
     returns-3)

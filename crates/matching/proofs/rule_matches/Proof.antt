@@ -13,35 +13,11 @@ Inv-loop words base values octets packet count first i₀ i = Walked values octe
 abbrev μ-loop : tie.MeasureT-loop
 μ-loop words base values octets packet count first i₀ i = count - i
 
-count-at-requires : tie.Need-count-at-requires Inv-loop μ-loop
-count-at-requires c κs = search needs
-
-first-at-requires : tie.Need-first-at-requires Inv-loop μ-loop
-first-at-requires c κs = search needs
-
 loop-holds : tie.Need-loop-holds Inv-loop μ-loop
 loop-holds c = walk-starts _ _ _ _ _ _ _ (c .before .before .before .before .before .before .pre .1 .0) (c .before .count-at .ensures) (c .first-at .ensures)
 
-mul-piece-at : tie.Need-mul-piece-at Inv-loop μ-loop
-mul-piece-at c = search needs
-
-add-piece-at : tie.Need-add-piece-at Inv-loop μ-loop
-add-piece-at c = search needs
-
-piece-at-requires : tie.Need-piece-at-requires Inv-loop μ-loop
-piece-at-requires c κs = search needs
-
-piece-matches-requires : tie.Need-piece-matches-requires Inv-loop μ-loop
-piece-matches-requires c κs = search needs
-
 returns : tie.Need-returns Inv-loop μ-loop
 returns c = let l = c .before .before .before .before in walk-stops _ _ _ _ _ _ _ _ (l .loop .inv) (omega arith) _ _ (c .before .before .piece-at .ensures) (c .before .piece-matches .ensures) (c .if1 .taken)
-
-add-i : tie.Need-add-i Inv-loop μ-loop
-add-i c = search needs
-
-loop-less : tie.Need-loop-less Inv-loop μ-loop
-loop-less c = search needs
 
 loop-again : tie.Need-loop-again Inv-loop μ-loop
 loop-again c = let l = c .before .before .before .before in walk-on _ _ _ _ _ _ _ _ (l .loop .inv) (omega arith) _ _ (c .before .before .piece-at .ensures) (c .before .piece-matches .ensures) (c .if1 .left)
@@ -55,15 +31,15 @@ rule-matches-spec =
     (tie.spec
     Inv-loop
     μ-loop
-    count-at-requires
-    first-at-requires
+    (λ c κs. search needs)
+    (λ c κs. search needs)
     loop-holds
-    mul-piece-at
-    add-piece-at
-    piece-at-requires
-    piece-matches-requires
+    (λ c. search needs)
+    (λ c. search needs)
+    (λ c κs. search needs)
+    (λ c κs. search needs)
     returns
-    add-i
-    loop-less
+    (λ c. search needs)
+    (λ c. search needs)
     loop-again
     returns-2)

@@ -7,30 +7,6 @@ use Rattle.matching.proofs.Patterns.{by-moves}
 use Rattle.matching.proofs.same_bits.Statement.{statement}
 use Rattle.matching.proofs.same_bits.Tie as tie
 
-less-requires : tie.Need-less-requires
-less-requires c κs = search needs
-
-cast-down : tie.Need-cast-down
-cast-down c = search needs
-
-less-requires-2 : tie.Need-less-requires-2
-less-requires-2 c κs = search needs
-
-less-requires-3 : tie.Need-less-requires-3
-less-requires-3 c κs = search needs
-
-cast-up : tie.Need-cast-up
-cast-up c = search needs
-
-apart-requires : tie.Need-apart-requires
-apart-requires c κs = search needs
-
-moved-requires : tie.Need-moved-requires
-moved-requires c κs = search needs
-
-same-requires : tie.Need-same-requires
-same-requires c κs = search needs
-
 returns : tie.Need-returns
 returns c = let m = c .before in let d = m .before in let l = d .before in let s = l .before .before .before in let a = s .args in let g = s .good .1 .1 .1 in c .same .ensures ∙ by-moves (a .width) (a .offset) (a .length) _ _ _ _ _ _ _ (wide-lt (a .a .high) (a .a .low) (omega (arith, g .0)) (omega (arith, g .0))) (wide-lt (a .b .high) (a .b .low) (omega (arith, g .1 .0)) (omega (arith, g .1 .0))) (d .apart .ensures) (l .before .before .less .ensures) (l .before .less2 .ensures) (l .less3 .ensures) (m .moved .ensures)
 
@@ -38,12 +14,12 @@ pub same-bits-spec : {M : Type 1} → statement M
 same-bits-spec =
     tie.close
     (tie.spec
-    less-requires
-    cast-down
-    less-requires-2
-    less-requires-3
-    cast-up
-    apart-requires
-    moved-requires
-    same-requires
+    (λ c κs. search needs)
+    (λ c. search needs)
+    (λ c κs. search needs)
+    (λ c κs. search needs)
+    (λ c. search needs)
+    (λ c κs. search needs)
+    (λ c κs. search needs)
+    (λ c κs. search needs)
     returns)

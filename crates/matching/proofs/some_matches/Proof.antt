@@ -16,35 +16,11 @@ abbrev μ-loop : tie.MeasureT-loop
 family-of-requires : tie.Need-family-of-requires Inv-loop μ-loop
 family-of-requires c κs = c .before .before .before .pre .0
 
-test-of-requires : tie.Need-test-of-requires Inv-loop μ-loop
-test-of-requires c κs = search needs
-
-shown-to-requires : tie.Need-shown-to-requires Inv-loop μ-loop
-shown-to-requires c κs = search needs
-
 loop-holds : tie.Need-loop-holds Inv-loop μ-loop
 loop-holds c = let t = c .before in let s = t .before .before .before .before .before in pass-starts _ _ _ _ (s .pre .0) _ (t .before .family-of .ensures) (t .test-of .ensures) _ (c .shown-to .ensures)
 
-add-list-matches : tie.Need-add-list-matches Inv-loop μ-loop
-add-list-matches c = search needs
-
-mul-list-matches : tie.Need-mul-list-matches Inv-loop μ-loop
-mul-list-matches c = search needs
-
-shared-slice-read-list-matches : tie.Need-shared-slice-read-list-matches Inv-loop μ-loop
-shared-slice-read-list-matches c = search needs
-
-list-matches-requires : tie.Need-list-matches-requires Inv-loop μ-loop
-list-matches-requires c κs = search needs
-
 returns : tie.Need-returns Inv-loop μ-loop
 returns c = let l = c .before .before .before .before in pass-stops _ _ _ _ _ _ _ (l .loop .inv) (omega arith) _ (c .before .list-matches .ensures) (c .if1 .taken)
-
-add-i : tie.Need-add-i Inv-loop μ-loop
-add-i c = search needs
-
-loop-less : tie.Need-loop-less Inv-loop μ-loop
-loop-less c = search needs
 
 loop-again : tie.Need-loop-again Inv-loop μ-loop
 loop-again c = let l = c .before .before .before .before in pass-on _ _ _ _ _ _ _ (l .loop .inv) (omega arith) _ (c .before .list-matches .ensures) (c .if1 .left)
@@ -59,15 +35,15 @@ some-matches-spec =
     Inv-loop
     μ-loop
     family-of-requires
-    test-of-requires
-    shown-to-requires
+    (λ c κs. search needs)
+    (λ c κs. search needs)
     loop-holds
-    add-list-matches
-    mul-list-matches
-    shared-slice-read-list-matches
-    list-matches-requires
+    (λ c. search needs)
+    (λ c. search needs)
+    (λ c. search needs)
+    (λ c κs. search needs)
     returns
-    add-i
-    loop-less
+    (λ c. search needs)
+    (λ c. search needs)
     loop-again
     returns-2)

@@ -16,12 +16,6 @@ use Rattle.measuring.proofs.shorter.Reads as shorter-reads
 returns : tie.Need-returns
 returns c = let a = c .before .before .before .args in inside-none (lent (a .values .now) (a .octets .now) (a .first)) (a .start) (a .count) (c .if1 .taken)
 
-shorter-requires : tie.Need-shorter-requires
-shorter-requires c κs = search needs
-
-lies-below-requires : tie.Need-lies-below-requires
-lies-below-requires c κs = search needs
-
 returns-2 : tie.Need-returns-2
 returns-2 c =
     let e = c .before .before in
@@ -31,4 +25,7 @@ returns-2 c =
     ∙ sym (inside-by (lent (a .values .now) (a .octets .now) (a .first)) (a .start) (a .count) (e .if1 .left))
 
 pub inside-spec : {M : Type 1} → statement M
-inside-spec = tie.close (tie.spec returns shorter-requires lies-below-requires returns-2)
+inside-spec = tie.close (tie.spec returns
+    (λ c κs. search needs)
+    (λ c κs. search needs)
+    returns-2)

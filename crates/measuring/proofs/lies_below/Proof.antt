@@ -22,13 +22,13 @@ returns-2 c =
     let h : a .bound < a .first + a .start + a .count = omega arith in
     sym (lt-leb _ _ h)
 
-sub-result : tie.Need-sub-result
-sub-result c = search needs
-
 returns-3 : tie.Need-returns-3
 returns-3 c =
     let a = c .before .before .args in
     no-sum (a .first) (a .start) (a .count) (a .bound) (omega arith) (omega arith)
 
 pub lies-below-spec : {M : Type 1} → statement M
-lies-below-spec = tie.close (tie.spec returns returns-2 sub-result returns-3)
+lies-below-spec = tie.close (tie.spec returns
+    returns-2
+    (λ c. search needs)
+    returns-3)

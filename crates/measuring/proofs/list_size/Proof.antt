@@ -12,24 +12,6 @@ use Rattle.measuring.proofs.list_size.Lts as lts
 use Rattle.measuring.proofs.plain_size.Reads as plain-size-reads
 use Rattle.measuring.proofs.standard_size.Reads as standard-size-reads
 
-enum-told : tie.Need-enum-told
-enum-told c = search needs
-
-plain-size-requires : tie.Need-plain-size-requires
-plain-size-requires c κs = search needs
-
-enum-told-2 : tie.Need-enum-told-2
-enum-told-2 c = search needs
-
-standard-size-requires : tie.Need-standard-size-requires
-standard-size-requires c κs = search needs
-
-enum-told-3 : tie.Need-enum-told-3
-enum-told-3 c = search needs
-
-standard-size-requires-2 : tie.Need-standard-size-requires-2
-standard-size-requires-2 c κs = search needs
-
 returns : tie.Need-returns
 returns c =
     let a = c .before .before .before .before .before .args in
@@ -49,12 +31,12 @@ pub list-size-spec : {M : Type 1} → statement M
 list-size-spec =
     tie.close
     (tie.spec
-    enum-told
-    plain-size-requires
-    enum-told-2
-    standard-size-requires
-    enum-told-3
-    standard-size-requires-2
+    (λ c. search needs)
+    (λ c κs. search needs)
+    (λ c. search needs)
+    (λ c κs. search needs)
+    (λ c. search needs)
+    (λ c κs. search needs)
     returns
     returns-2
     returns-3)

@@ -1,6 +1,6 @@
 -- `measuring::measure_body` meets its contract. The invariant: the whole is what was counted and what is left of the words.
-use Prim.Native.Nat.{ℕ, _+_, _-_, _*_, _≤_}
-use mathlib.Core.Path.{_≡_, refl, sym, ap, _∙_}
+use Prim.Native.Nat.{_+_, _-_, _*_, _≤_}
+use mathlib.Core.Path.{_≡_, sym, _∙_}
 use native.Mathlib.Omega.{arith}
 use Rattle.measuring.specs.Bodies.{lent}
 use Rattle.stored.specs.Stored.{piecesFrom}
@@ -24,21 +24,6 @@ abbrev μ-loop : tie.MeasureT-loop
 
 loop-holds : tie.Need-loop-holds Inv-loop μ-loop
 loop-holds c = let a = c .before .before .before .args in (omega arith, omega arith, omega arith, walk-first (a .writing) (lent (a .values .now) (a .octets .now) (a .first)) (a .words .now) (a .count))
-
-mul-piece-at : tie.Need-mul-piece-at Inv-loop μ-loop
-mul-piece-at c = search needs
-
-piece-at-requires : tie.Need-piece-at-requires Inv-loop μ-loop
-piece-at-requires c κs = search needs
-
-weigh-requires : tie.Need-weigh-requires Inv-loop μ-loop
-weigh-requires c κs = search needs
-
-enum-known-w : tie.Need-enum-known-w Inv-loop μ-loop
-enum-known-w c = search needs
-
-enum-told : tie.Need-enum-told Inv-loop μ-loop
-enum-told c = search needs
 
 returns : tie.Need-returns Inv-loop μ-loop
 returns c =
@@ -68,12 +53,6 @@ sub-left c =
     let l = lent (a .values .now) (a .octets .now) (a .first) in
     let f = weighs (a .writing) l (o .loop .left) (o .loop .previous) (g .before .piece-at .ensures) (g .weigh .ensures) (k .w .given .1) in
     f .few
-
-add-i : tie.Need-add-i Inv-loop μ-loop
-add-i c = search needs
-
-loop-less : tie.Need-loop-less Inv-loop μ-loop
-loop-less c = search needs
 
 loop-again : tie.Need-loop-again Inv-loop μ-loop
 loop-again c =
@@ -106,16 +85,16 @@ measure-body-spec =
     Inv-loop
     μ-loop
     loop-holds
-    mul-piece-at
-    piece-at-requires
-    weigh-requires
-    enum-known-w
-    enum-told
+    (λ c. search needs)
+    (λ c κs. search needs)
+    (λ c κs. search needs)
+    (λ c. search needs)
+    (λ c. search needs)
     returns
     add-body
     sub-left
-    add-i
-    loop-less
+    (λ c. search needs)
+    (λ c. search needs)
     loop-again
     returns-2
     returns-3)

@@ -1,9 +1,6 @@
 -- `measuring::plain_size` meets its contract: a list that is not empty lies within the lent lists.
-use Prim.Native.Nat.{_+_}
-use mathlib.Core.Path.{sym, ap, _∙_}
 use native.Mathlib.Omega.{arith}
-use Rattle.operators.specs.Ops.{opsIn}
-use Rattle.listwriting.specs.Lists.{sizeIn, takes}
+use Rattle.listwriting.specs.Lists.{sizeIn}
 use Rattle.measuring.specs.Bodies.{lent}
 use Rattle.measuring.proofs.Insides.{inside-both}
 use borrow.Author.Needs.{needs}
@@ -31,8 +28,8 @@ size-requires c κs =
     let b = inside-both (lent (a .values .now) (a .octets .now) (a .first)) (a .start) (a .count) (c .if1 .left) (s .pre .0) in
     (omega (arith, b .1), omega (arith, s .pre .1))
 
-returns-2 : tie.Need-returns-2
-returns-2 c = search needs
-
 pub plain-size-spec : {M : Type 1} → statement M
-plain-size-spec = tie.close (tie.spec returns add-size size-requires returns-2)
+plain-size-spec = tie.close (tie.spec returns
+    add-size
+    size-requires
+    (λ c. search needs))

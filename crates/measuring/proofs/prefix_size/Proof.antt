@@ -12,24 +12,6 @@ use Rattle.measuring.proofs.prefix_size.Lts as lts
 use Rattle.prefixwriting.proofs.octets_in_plain.Reads as octets-in-plain-reads
 use Rattle.prefixwriting.proofs.octets_in_standard.Reads as octets-in-standard-reads
 
-enum-told : tie.Need-enum-told
-enum-told c = search needs
-
-octets-in-plain-requires : tie.Need-octets-in-plain-requires
-octets-in-plain-requires c κs = search needs
-
-enum-told-2 : tie.Need-enum-told-2
-enum-told-2 c = search needs
-
-octets-in-standard-requires : tie.Need-octets-in-standard-requires
-octets-in-standard-requires c κs = search needs
-
-enum-told-3 : tie.Need-enum-told-3
-enum-told-3 c = search needs
-
-octets-in-standard-requires-2 : tie.Need-octets-in-standard-requires-2
-octets-in-standard-requires-2 c κs = search needs
-
 returns : tie.Need-returns
 returns c = let a = c .before .before .before .args in c .octets-in-plain .ensures ∙ sym (ap (λ (w : Reading). length (prefixOctets w (a .prefix))) (c .before .enum-told .given .1) ∙ length-plain (a .prefix))
 
@@ -43,12 +25,12 @@ pub prefix-size-spec : {M : Type 1} → statement M
 prefix-size-spec =
     tie.close
     (tie.spec
-    enum-told
-    octets-in-plain-requires
-    enum-told-2
-    octets-in-standard-requires
-    enum-told-3
-    octets-in-standard-requires-2
+    (λ c. search needs)
+    (λ c κs. search needs)
+    (λ c. search needs)
+    (λ c κs. search needs)
+    (λ c. search needs)
+    (λ c κs. search needs)
     returns
     returns-2
     returns-3)

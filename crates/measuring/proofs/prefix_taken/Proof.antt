@@ -10,24 +10,6 @@ use Rattle.measuring.proofs.prefix_taken.Lts as lts
 use Rattle.prefixes.proofs.in_range.Reads as in-range-reads
 use Rattle.prefixes.proofs.valid.Reads as valid-reads
 
-enum-told : tie.Need-enum-told
-enum-told c = search needs
-
-in-range-requires : tie.Need-in-range-requires
-in-range-requires c κs = search needs
-
-enum-told-2 : tie.Need-enum-told-2
-enum-told-2 c = search needs
-
-valid-requires : tie.Need-valid-requires
-valid-requires c κs = search needs
-
-enum-told-3 : tie.Need-enum-told-3
-enum-told-3 c = search needs
-
-valid-requires-2 : tie.Need-valid-requires-2
-valid-requires-2 c κs = search needs
-
 returns : tie.Need-returns
 returns c = let a = c .before .before .before .args in c .in-range .ensures ∙ sym (ap (λ (w : Reading). prefixTaken w (a .prefix)) (c .before .enum-told .given .1))
 
@@ -41,12 +23,12 @@ pub prefix-taken-spec : {M : Type 1} → statement M
 prefix-taken-spec =
     tie.close
     (tie.spec
-    enum-told
-    in-range-requires
-    enum-told-2
-    valid-requires
-    enum-told-3
-    valid-requires-2
+    (λ c. search needs)
+    (λ c κs. search needs)
+    (λ c. search needs)
+    (λ c κs. search needs)
+    (λ c. search needs)
+    (λ c κs. search needs)
     returns
     returns-2
     returns-3)

@@ -9,24 +9,6 @@ use Rattle.measuring.proofs.rises.Reads as reads
 use Rattle.measuring.proofs.rises.Lts as lts
 use Rattle.measuring.proofs.rises_to.Reads as rises-to-reads
 
-enum-told : tie.Need-enum-told
-enum-told c = search needs
-
-enum-told-2 : tie.Need-enum-told-2
-enum-told-2 c = search needs
-
-rises-to-requires : tie.Need-rises-to-requires
-rises-to-requires c κs = search needs
-
-enum-told-3 : tie.Need-enum-told-3
-enum-told-3 c = search needs
-
-rises-to-requires-2 : tie.Need-rises-to-requires-2
-rises-to-requires-2 c κs = search needs
-
-returns : tie.Need-returns
-returns c = search needs
-
 returns-2 : tie.Need-returns-2
 returns-2 c = let a = c .before .before .before .args in c .rises-to .ensures ∙ sym (ap (λ (w : Reading). risesIn w (a .previous) (a .tag)) (c .before .enum-told2 .given .1))
 
@@ -37,11 +19,11 @@ pub rises-spec : {M : Type 1} → statement M
 rises-spec =
     tie.close
     (tie.spec
-    enum-told
-    enum-told-2
-    rises-to-requires
-    enum-told-3
-    rises-to-requires-2
-    returns
+    (λ c. search needs)
+    (λ c. search needs)
+    (λ c κs. search needs)
+    (λ c. search needs)
+    (λ c κs. search needs)
+    (λ c. search needs)
     returns-2
     returns-3)

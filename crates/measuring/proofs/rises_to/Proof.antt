@@ -1,6 +1,5 @@
 -- `measuring::rises_to` meets its contract: two tests in turn.
 use borrow.Author.Tests.{lt-ltb, le-ltb}
-use borrow.Author.Needs.{needs}
 use Rattle.measuring.proofs.rises_to.Statement.{statement}
 use Rattle.measuring.proofs.rises_to.Tie as tie
 use Rattle.measuring.proofs.rises_to.Reads as reads

@@ -28,9 +28,9 @@ standard-size-requires c κs =
     let b = inside-both (lent (a .values .now) (a .octets .now) (a .first)) (a .start) (a .count) (c .if1 .left) (s .pre .0) in
     (omega (arith, b .0), omega (arith, b .1), s .pre .1)
 
-returns-2 : tie.Need-returns-2
-returns-2 c = search needs
-
 pub standard-size-spec : {M : Type 1} → statement M
 standard-size-spec =
-    tie.close (tie.spec returns add-standard-size standard-size-requires returns-2)
+    tie.close (tie.spec returns
+    add-standard-size
+    standard-size-requires
+    (λ c. search needs))

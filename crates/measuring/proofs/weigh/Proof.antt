@@ -1,5 +1,5 @@
 -- `measuring::weigh` meets its contract, by the piece.
-use mathlib.Core.Path.{_≡_, sym, ap, _∙_}
+use mathlib.Core.Path.{sym, ap, _∙_}
 use Rattle.measuring.specs.Bodies.{lent}
 use Rattle.measuring.specs.Weights.{weighedOf}
 use Rattle.measuring.proofs.Weights.{weighed-prefix, weighed-nothing}
@@ -10,21 +10,6 @@ use Rattle.measuring.proofs.weigh.Reads as reads
 use Rattle.measuring.proofs.weigh.Lts as lts
 use Rattle.measuring.proofs.weigh_list.Reads as weigh-list-reads
 use Rattle.measuring.proofs.weigh_prefix.Reads as weigh-prefix-reads
-
-enum-known-piece : tie.Need-enum-known-piece
-enum-known-piece c = search needs
-
-weigh-prefix-requires : tie.Need-weigh-prefix-requires
-weigh-prefix-requires c κs = search needs
-
-enum-known-piece-2 : tie.Need-enum-known-piece-2
-enum-known-piece-2 c = search needs
-
-weigh-list-requires : tie.Need-weigh-list-requires
-weigh-list-requires c κs = search needs
-
-enum-told : tie.Need-enum-told
-enum-told c = search needs
 
 returns : tie.Need-returns
 returns c =
@@ -50,11 +35,11 @@ pub weigh-spec : {M : Type 1} → statement M
 weigh-spec =
     tie.close
     (tie.spec
-    enum-known-piece
-    weigh-prefix-requires
-    enum-known-piece-2
-    weigh-list-requires
-    enum-told
+    (λ c. search needs)
+    (λ c κs. search needs)
+    (λ c. search needs)
+    (λ c κs. search needs)
+    (λ c. search needs)
     returns
     returns-2
     returns-3)

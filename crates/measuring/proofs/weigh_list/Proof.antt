@@ -1,6 +1,6 @@
 -- `measuring::weigh_list` meets its contract: the tests in turn.
-use Prim.Native.Nat.{ℕ, _+_}
-use mathlib.Core.Path.{sym, ap, _∙_}
+use Prim.Native.Nat.{_+_}
+use mathlib.Core.Path.{sym, _∙_}
 use native.Mathlib.Omega.{arith}
 use Rattle.listwriting.specs.Lists.{sizeIn}
 use Rattle.listwriting.proofs.Sizes.{size-most}
@@ -17,22 +17,10 @@ use Rattle.measuring.proofs.inside.Reads as inside-reads
 use Rattle.measuring.proofs.list_size.Reads as list-size-reads
 use Rattle.measuring.proofs.rises.Reads as rises-reads
 
-inside-requires : tie.Need-inside-requires
-inside-requires c κs = search needs
-
-rises-requires : tie.Need-rises-requires
-rises-requires c κs = search needs
-
 list-size-requires : tie.Need-list-size-requires
 list-size-requires c κs =
     let i = c .before .before in
     (sym (i .before .inside .ensures) ∙ i .if2 .taken, omega arith)
-
-enum-known-size : tie.Need-enum-known-size
-enum-known-size c = search needs
-
-enum-told : tie.Need-enum-told
-enum-told c = search needs
 
 returns : tie.Need-returns
 returns c =
@@ -90,11 +78,11 @@ pub weigh-list-spec : {M : Type 1} → statement M
 weigh-list-spec =
     tie.close
     (tie.spec
-    inside-requires
-    rises-requires
+    (λ c κs. search needs)
+    (λ c κs. search needs)
     list-size-requires
-    enum-known-size
-    enum-told
+    (λ c. search needs)
+    (λ c. search needs)
     returns
     add-t15
     returns-2

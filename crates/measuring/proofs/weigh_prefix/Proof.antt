@@ -5,7 +5,7 @@ use mathlib.Core.Bool.{_&&_}
 use native.Mathlib.Omega.{arith}
 use lib.ListN.{length}
 use Rattle.measuring.specs.Bodies.{prefixOctets}
-use Rattle.measuring.specs.Grounds.{prefixTaken, risesIn}
+use Rattle.measuring.specs.Grounds.{risesIn}
 use Rattle.measuring.specs.Weights.{weighed}
 use Rattle.measuring.proofs.Weights.{prefix-most}
 use borrow.Author.Needs.{needs}
@@ -16,15 +16,6 @@ use Rattle.measuring.proofs.weigh_prefix.Lts as lts
 use Rattle.measuring.proofs.prefix_size.Reads as prefix-size-reads
 use Rattle.measuring.proofs.prefix_taken.Reads as prefix-taken-reads
 use Rattle.measuring.proofs.rises.Reads as rises-reads
-
-prefix-taken-requires : tie.Need-prefix-taken-requires
-prefix-taken-requires c κs = search needs
-
-rises-requires : tie.Need-rises-requires
-rises-requires c κs = search needs
-
-prefix-size-requires : tie.Need-prefix-size-requires
-prefix-size-requires c κs = search needs
 
 add-t8 : tie.Need-add-t8
 add-t8 c =
@@ -57,9 +48,9 @@ pub weigh-prefix-spec : {M : Type 1} → statement M
 weigh-prefix-spec =
     tie.close
     (tie.spec
-    prefix-taken-requires
-    rises-requires
-    prefix-size-requires
+    (λ c κs. search needs)
+    (λ c κs. search needs)
+    (λ c κs. search needs)
     add-t8
     returns
     returns-2

@@ -4,9 +4,6 @@ use borrow.Author.Needs.{needs}
 use Rattle.nlri.proofs.places_needed.Statement.{statement}
 use Rattle.nlri.proofs.places_needed.Tie as tie
 
-add-result : tie.Need-add-result
-add-result c = search needs
-
 returns : tie.Need-returns
 returns c = rw (lt-ltb _ 18446744073709551615 (c .if1 .taken))
 
@@ -14,4 +11,6 @@ returns-2 : tie.Need-returns-2
 returns-2 c = rw (le-ltb _ 18446744073709551615 (c .if1 .left))
 
 pub places-needed-spec : {M : Type 1} → statement M
-places-needed-spec = tie.close (tie.spec add-result returns returns-2)
+places-needed-spec = tie.close (tie.spec (λ c. search needs)
+    returns
+    returns-2)

@@ -7,9 +7,6 @@ use Rattle.packets.proofs.Shows.{address-by, address-within}
 use Rattle.packets.proofs.address_of.Statement.{statement}
 use Rattle.packets.proofs.address_of.Tie as tie
 
-address-word-requires : tie.Need-address-word-requires
-address-word-requires c κs = search needs
-
 mul-t4 : tie.Need-mul-t4
 mul-t4 c = omega (arith, c .address-word .ensures, address-within (eqb (c .before .before .args .tag) 1))
 
@@ -32,7 +29,7 @@ pub address-of-spec : {M : Type 1} → statement M
 address-of-spec =
     tie.close
     (tie.spec
-    address-word-requires
+    (λ c κs. search needs)
     mul-t4
     shared-slice-read-t6
     add-t7

@@ -8,9 +8,6 @@ use Rattle.packets.proofs.Shows.{place-within, shown-none, shown-some}
 use Rattle.packets.proofs.shown_to.Statement.{statement}
 use Rattle.packets.proofs.shown_to.Tie as tie
 
-place-of-requires : tie.Need-place-of-requires
-place-of-requires c κs = search needs
-
 mul-if1 : tie.Need-mul-if1
 mul-if1 c = omega (arith, ap (λ (x : Place). x .flag) (c .place-of .ensures), place-within (c .before .before .args .tag) .0)
 
@@ -25,4 +22,8 @@ returns-2 c = shown-some (c .before .before .before .before .args .packet .now) 
 
 pub shown-to-spec : {M : Type 1} → statement M
 shown-to-spec =
-    tie.close (tie.spec place-of-requires mul-if1 shared-slice-read-if1 returns returns-2)
+    tie.close (tie.spec (λ c κs. search needs)
+    mul-if1
+    shared-slice-read-if1
+    returns
+    returns-2)

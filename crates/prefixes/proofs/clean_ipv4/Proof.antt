@@ -10,11 +10,9 @@ use Rattle.prefixes.proofs.clean_ipv4.Reads as reads
 use Rattle.prefixes.proofs.clean_ipv4.Lts as lts
 use Rattle.octets.proofs.keep_ipv4.Reads as keep-ipv4-reads
 
-keep-ipv4-requires : tie.Need-keep-ipv4-requires
-keep-ipv4-requires c κs = search needs
-
 returns : tie.Need-returns
 returns c = ap (λ (x : ℕ). eqb x (c .before .args .address)) (c .keep-ipv4 .ensures) ∙ none-before 32 (c .before .args .len) (c .before .args .address) (c .before .fits .address .fits)
 
 pub clean-ipv4-spec : {M : Type 1} → statement M
-clean-ipv4-spec = tie.close (tie.spec keep-ipv4-requires returns)
+clean-ipv4-spec = tie.close (tie.spec (λ c κs. search needs)
+    returns)

@@ -14,18 +14,6 @@ use Rattle.prefixes.proofs.clean_ipv6.Lts as lts
 use Rattle.octets.proofs.keep_ipv6.Reads as keep-ipv6-reads
 use Rattle.wide.proofs.same.Reads as same-reads
 
-keep-ipv6-requires : tie.Need-keep-ipv6-requires
-keep-ipv6-requires c κs = search needs
-
-same-requires : tie.Need-same-requires
-same-requires c κs = search needs
-
-keep-ipv6-requires-2 : tie.Need-keep-ipv6-requires-2
-keep-ipv6-requires-2 c κs = search needs
-
-same-requires-2 : tie.Need-same-requires-2
-same-requires-2 c κs = search needs
-
 returns : tie.Need-returns
 returns c = let a = c .before .before .before .before .before .args in let k = c .before .before .before .before .keep-ipv6 in let e : eqb (firstBits 128 (a .len) (num (a .w))) (num (a .w)) ≡ true = sym (kept-test (k .result) (a .w) (a .len) (num (a .w)) (k .ensures)) ∙ sym (c .before .before .before .same .ensures) ∙ c .before .before .if1 .taken in c .same2 .ensures ∙ kept-test (c .before .keep-ipv62 .result) (a .w) (a .off) 0 (c .before .keep-ipv62 .ensures) ∙ sym (ap (λ (t : Bool). t && eqb (firstBits 128 (a .off) (num (a .w))) 0) e)
 
@@ -36,9 +24,9 @@ pub clean-ipv6-spec : {M : Type 1} → statement M
 clean-ipv6-spec =
     tie.close
     (tie.spec
-    keep-ipv6-requires
-    same-requires
-    keep-ipv6-requires-2
-    same-requires-2
+    (λ c κs. search needs)
+    (λ c κs. search needs)
+    (λ c κs. search needs)
+    (λ c κs. search needs)
     returns
     returns-2)

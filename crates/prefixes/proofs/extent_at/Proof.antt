@@ -18,47 +18,17 @@ use Rattle.prefixes.proofs.octets_at.Reads as octets-at-reads
 returns : tie.Need-returns
 returns c = sym (extent-none _ _ _ (c .if1 .taken))
 
-shared-slice-read-len : tie.Need-shared-slice-read-len
-shared-slice-read-len c = search needs
-
-add-from : tie.Need-add-from
-add-from c = search needs
-
-enum-told : tie.Need-enum-told
-enum-told c = search needs
-
 returns-2 : tie.Need-returns-2
 returns-2 c = rw (c .before .enum-told .given .1) (sym (extent-bad Plain _ _ (omega arith) (lt-leb _ 128 (c .if2 .taken))))
-
-octets-at-requires : tie.Need-octets-at-requires
-octets-at-requires c κs = search needs
-
-enum-told-2 : tie.Need-enum-told-2
-enum-told-2 c = search needs
 
 returns-3 : tie.Need-returns-3
 returns-3 c = rw (c .before .enum-told2 .given .1) (sym (extent-bad Ipv4 _ _ (omega arith) (lt-leb _ 32 (c .if3 .taken))))
 
-octets-at-requires-2 : tie.Need-octets-at-requires-2
-octets-at-requires-2 c κs = search needs
-
-enum-told-3 : tie.Need-enum-told-3
-enum-told-3 c = search needs
-
 returns-4 : tie.Need-returns-4
 returns-4 c = rw (c .before .enum-told3 .given .1) (sym (extent-missing Ipv6 _ _ (omega arith)))
 
-shared-slice-read-off : tie.Need-shared-slice-read-off
-shared-slice-read-off c = search needs
-
-offset-fits-requires : tie.Need-offset-fits-requires
-offset-fits-requires c κs = search needs
-
 returns-5 : tie.Need-returns-5
 returns-5 c = rw (c .before .before .before .before .enum-told3 .given .1) (sym (extent-bad Ipv6 _ _ (omega arith) (sym (c .before .offset-fits .ensures) ∙ not-true _ (c .if5 .taken))))
-
-add-octets-at : tie.Need-add-octets-at
-add-octets-at c = search needs
 
 octets-at-requires-3 : tie.Need-octets-at-requires-3
 octets-at-requires-3 c κs = let a = c .before .before .before .before .before .before .before .before .before .args in (fits-le (getD (a .s .now) (a .c .at) 0) (getD (a .s .now) (a .c .at + 1) 0) (sym (c .before .offset-fits .ensures) ∙ not-false _ (c .if5 .left)) .0, omega arith)
@@ -86,20 +56,20 @@ extent-at-spec =
     tie.close
     (tie.spec
     returns
-    shared-slice-read-len
-    add-from
-    enum-told
+    (λ c. search needs)
+    (λ c. search needs)
+    (λ c. search needs)
     returns-2
-    octets-at-requires
-    enum-told-2
+    (λ c κs. search needs)
+    (λ c. search needs)
     returns-3
-    octets-at-requires-2
-    enum-told-3
+    (λ c κs. search needs)
+    (λ c. search needs)
     returns-4
-    shared-slice-read-off
-    offset-fits-requires
+    (λ c. search needs)
+    (λ c κs. search needs)
     returns-5
-    add-octets-at
+    (λ c. search needs)
     octets-at-requires-3
     returns-6
     returns-7

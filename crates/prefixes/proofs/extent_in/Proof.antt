@@ -21,26 +21,17 @@ shared-slice-read-len c = let g = c .before .before in omega (arith, from-past (
 add-from : tie.Need-add-from
 add-from c = let g = c .before .before in omega (arith, from-past (g .args .reading) (g .args .c .at), (extent-taken _ _ _ (g .pre)) .head)
 
-enum-told : tie.Need-enum-told
-enum-told c = search needs
-
 extent-of-requires : tie.Need-extent-of-requires
 extent-of-requires c κs =
     let g = c .before .before .before .before in
     let t = subst (λ (r : Reading). Taken r (g .args .s .now) (g .args .c .at)) (c .enum-told .given .1) (extent-taken _ _ _ (g .pre)) in
     (omega arith, omega (arith, t .within))
 
-enum-told-2 : tie.Need-enum-told-2
-enum-told-2 c = search needs
-
 extent-of-requires-2 : tie.Need-extent-of-requires-2
 extent-of-requires-2 c κs =
     let g = c .before .before .before .before in
     let t = subst (λ (r : Reading). Taken r (g .args .s .now) (g .args .c .at)) (c .enum-told2 .given .1) (extent-taken _ _ _ (g .pre)) in
     (omega arith, omega (arith, t .within))
-
-enum-told-3 : tie.Need-enum-told-3
-enum-told-3 c = search needs
 
 shared-slice-read-extent-of : tie.Need-shared-slice-read-extent-of
 shared-slice-read-extent-of c =
@@ -90,11 +81,11 @@ extent-in-spec =
     (tie.spec
     shared-slice-read-len
     add-from
-    enum-told
+    (λ c. search needs)
     extent-of-requires
-    enum-told-2
+    (λ c. search needs)
     extent-of-requires-2
-    enum-told-3
+    (λ c. search needs)
     shared-slice-read-extent-of
     add-extent-of
     extent-of-requires-3

@@ -7,18 +7,6 @@ use Rattle.prefixes.proofs.front_ipv4.Reads as reads
 use Rattle.prefixes.proofs.front_ipv4.Lts as lts
 use Rattle.prefixes.proofs.octets_of.Reads as octets-of-reads
 
-octets-of-requires : tie.Need-octets-of-requires
-octets-of-requires c κs = search needs
-
-mul-bits : tie.Need-mul-bits
-mul-bits c = search needs
-
-sub-result : tie.Need-sub-result
-sub-result c = search needs
-
-shl-result : tie.Need-shl-result
-shl-result c = search needs
-
 cast-result : tie.Need-cast-result
 cast-result c = let a = c .before .before .args in let p = c .before .before .pre in let q = front-ipv4-lt (a .v .high) (a .v .low) (a .len) (c .before .octets-of .result) (p .0) (c .before .octets-of .ensures) (p .1) in search needs
 
@@ -27,4 +15,9 @@ returns c = let a = c .before .before .args in let p = c .before .before .pre in
 
 pub front-ipv4-spec : {M : Type 1} → statement M
 front-ipv4-spec =
-    tie.close (tie.spec octets-of-requires mul-bits sub-result shl-result cast-result returns)
+    tie.close (tie.spec (λ c κs. search needs)
+    (λ c. search needs)
+    (λ c. search needs)
+    (λ c. search needs)
+    cast-result
+    returns)

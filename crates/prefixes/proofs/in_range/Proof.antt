@@ -7,18 +7,6 @@ use Rattle.prefixes.proofs.in_range.Tie as tie
 use Rattle.prefixes.proofs.in_range.Reads as reads
 use Rattle.prefixes.proofs.in_range.Lts as lts
 
-enum-known-prefix : tie.Need-enum-known-prefix
-enum-known-prefix c = search needs
-
-enum-known-prefix-2 : tie.Need-enum-known-prefix-2
-enum-known-prefix-2 c = search needs
-
-enum-known-prefix-3 : tie.Need-enum-known-prefix-3
-enum-known-prefix-3 c = search needs
-
-enum-known-prefix-4 : tie.Need-enum-known-prefix-4
-enum-known-prefix-4 c = search needs
-
 returns : tie.Need-returns
 returns c = sym (ap inRange (c .before .prefix .given .1))
 
@@ -35,10 +23,10 @@ pub in-range-spec : {M : Type 1} → statement M
 in-range-spec =
     tie.close
     (tie.spec
-    enum-known-prefix
-    enum-known-prefix-2
-    enum-known-prefix-3
-    enum-known-prefix-4
+    (λ c. search needs)
+    (λ c. search needs)
+    (λ c. search needs)
+    (λ c. search needs)
     returns
     returns-2
     returns-3

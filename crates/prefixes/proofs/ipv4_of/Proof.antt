@@ -11,14 +11,10 @@ use Rattle.prefixes.proofs.ipv4_of.Lts as lts
 use Rattle.octets.proofs.keep_ipv4.Reads as keep-ipv4-reads
 use Rattle.prefixes.proofs.front_ipv4.Reads as front-ipv4-reads
 
-front-ipv4-requires : tie.Need-front-ipv4-requires
-front-ipv4-requires c κs = search needs
-
-keep-ipv4-requires : tie.Need-keep-ipv4-requires
-keep-ipv4-requires c κs = search needs
-
 returns : tie.Need-returns
 returns c = let a = c .before .before .args in ap (λ (x : ℕ). Ipv4 (a .len) x) (c .keep-ipv4 .ensures ∙ ap (λ (x : ℕ). firstBits 32 (a .len) x) (c .before .front-ipv4 .ensures))
 
 pub ipv4-of-spec : {M : Type 1} → statement M
-ipv4-of-spec = tie.close (tie.spec front-ipv4-requires keep-ipv4-requires returns)
+ipv4-of-spec = tie.close (tie.spec (λ c κs. search needs)
+    (λ c κs. search needs)
+    returns)

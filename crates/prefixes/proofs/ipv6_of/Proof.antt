@@ -11,30 +11,6 @@ use Rattle.prefixes.proofs.ipv6_of.Lts as lts
 use Rattle.prefixes.proofs.octets_of.Reads as octets-of-reads
 use Rattle.wide.proofs.moved.Reads as moved-reads
 
-sub-n : tie.Need-sub-n
-sub-n c = search needs
-
-octets-of-requires : tie.Need-octets-of-requires
-octets-of-requires c κs = search needs
-
-cast-bits : tie.Need-cast-bits
-cast-bits c = search needs
-
-mul-bits : tie.Need-mul-bits
-mul-bits c = search needs
-
-cast-moved : tie.Need-cast-moved
-cast-moved c = search needs
-
-sub-moved : tie.Need-sub-moved
-sub-moved c = search needs
-
-sub-moved-2 : tie.Need-sub-moved-2
-sub-moved-2 c = search needs
-
-moved-requires : tie.Need-moved-requires
-moved-requires c κs = search needs
-
 returns : tie.Need-returns
 returns c = let a = c .before .before .args in let p = c .before .before .pre in ap (λ (w : Wide). Ipv6Offset (a .len) (a .off) (w .high) (w .low)) (offset-ipv6 (a .v) (c .moved .result) (a .len) (c .before .octets-of .result) (p .1) (a .off) (p .0) (c .before .octets-of .ensures) (p .2) (c .moved .ensures))
 
@@ -42,12 +18,12 @@ pub ipv6-of-spec : {M : Type 1} → statement M
 ipv6-of-spec =
     tie.close
     (tie.spec
-    sub-n
-    octets-of-requires
-    cast-bits
-    mul-bits
-    cast-moved
-    sub-moved
-    sub-moved-2
-    moved-requires
+    (λ c. search needs)
+    (λ c κs. search needs)
+    (λ c. search needs)
+    (λ c. search needs)
+    (λ c. search needs)
+    (λ c. search needs)
+    (λ c. search needs)
+    (λ c κs. search needs)
     returns)

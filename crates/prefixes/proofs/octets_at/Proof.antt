@@ -12,24 +12,17 @@ use Rattle.prefixes.proofs.octets_at.Lts as lts
 use Rattle.prefixes.proofs.octets_of.Reads as octets-of-reads
 use Rattle.prefixes.proofs.extent_of.Reads as extent-of-reads
 
-sub-if1 : tie.Need-sub-if1
-sub-if1 c = search needs
-
-sub-octets-of : tie.Need-sub-octets-of
-sub-octets-of c = search needs
-
-octets-of-requires : tie.Need-octets-of-requires
-octets-of-requires c κs = search needs
-
 returns : tie.Need-returns
 returns c = let a = c .before .before .before .args in sym (octets-missing (a .s .now) (extentOf (a .len) (a .off) (a .from)) (omega (arith, c .before .octets-of .ensures)))
-
-extent-of-requires : tie.Need-extent-of-requires
-extent-of-requires c κs = search needs
 
 returns-2 : tie.Need-returns-2
 returns-2 c = let o = c .before .before in let a = o .before .before .args in ap accepts (c .extent-of .ensures) ∙ sym (octets-there (a .s .now) (extentOf (a .len) (a .off) (a .from)) (omega (arith, o .octets-of .ensures)))
 
 pub octets-at-spec : {M : Type 1} → statement M
 octets-at-spec =
-    tie.close (tie.spec sub-if1 sub-octets-of octets-of-requires returns extent-of-requires returns-2)
+    tie.close (tie.spec (λ c. search needs)
+    (λ c. search needs)
+    (λ c κs. search needs)
+    returns
+    (λ c κs. search needs)
+    returns-2)

@@ -11,12 +11,6 @@ use Rattle.prefixes.proofs.plain_of.Lts as lts
 use Rattle.prefixes.proofs.front_ipv4.Reads as front-ipv4-reads
 use Rattle.prefixes.proofs.front_ipv6.Reads as front-ipv6-reads
 
-front-ipv4-requires : tie.Need-front-ipv4-requires
-front-ipv4-requires c κs = search needs
-
-front-ipv6-requires : tie.Need-front-ipv6-requires
-front-ipv6-requires c κs = search needs
-
 returns : tie.Need-returns
 returns c = simp (le-leb _ _ (c .before .if1 .taken), c .front-ipv4 .ensures)
 
@@ -24,4 +18,7 @@ returns-2 : tie.Need-returns-2
 returns-2 c = simp (lt-leb _ _ (c .before .if1 .left)) (ap (λ (w : Wide). Ipv6 (c .before .before .args .len) (w .high) (w .low)) (c .front-ipv6 .ensures))
 
 pub plain-of-spec : {M : Type 1} → statement M
-plain-of-spec = tie.close (tie.spec front-ipv4-requires front-ipv6-requires returns returns-2)
+plain-of-spec = tie.close (tie.spec (λ c κs. search needs)
+    (λ c κs. search needs)
+    returns
+    returns-2)

@@ -11,17 +11,8 @@ use Rattle.prefixes.proofs.prefix_at.Lts as lts
 use Rattle.prefixes.proofs.Extent.prefix.Reads as prefix-reads
 use Rattle.prefixes.proofs.extent_at.Reads as extent-at-reads
 
-extent-at-requires : tie.Need-extent-at-requires
-extent-at-requires c κs = search needs
-
-enum-known-e : tie.Need-enum-known-e
-enum-known-e c = search needs
-
 prefix-requires : tie.Need-prefix-requires
 prefix-requires c κs = record { at = c .before .before .before .before .before .args .c .at; is = sym (c .before .before .before .extent-at .ensures) ∙ ap toldExtent (c .before .e .given .1) }
-
-enum-known-fault : tie.Need-enum-known-fault
-enum-known-fault c = search needs
 
 returns : tie.Need-returns
 returns c = let k = c .before in ap accepts (c .prefix .ensures) ∙ sym (prefix-by _ _ _ (sym (k .before .before .before .extent-at .ensures) ∙ ap toldExtent (k .before .e .given .1)))
@@ -32,4 +23,9 @@ returns-2 c = sym (prefix-by _ _ _ (sym (c .before .before .before .extent-at .e
 pub prefix-at-spec : {M : Type 1} → statement M
 prefix-at-spec =
     tie.close
-    (tie.spec extent-at-requires enum-known-e prefix-requires enum-known-fault returns returns-2)
+    (tie.spec (λ c κs. search needs)
+    (λ c. search needs)
+    prefix-requires
+    (λ c. search needs)
+    returns
+    returns-2)

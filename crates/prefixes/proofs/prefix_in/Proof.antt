@@ -10,14 +10,10 @@ use Rattle.prefixes.proofs.prefix_in.Lts as lts
 use Rattle.prefixes.proofs.Extent.prefix.Reads as prefix-reads
 use Rattle.prefixes.proofs.extent_in.Reads as extent-in-reads
 
-extent-in-requires : tie.Need-extent-in-requires
-extent-in-requires c κs = search needs
-
-prefix-requires : tie.Need-prefix-requires
-prefix-requires c κs = search needs
-
 returns : tie.Need-returns
 returns c = prefix-by _ _ _ (c .before .extent-in .ensures) ∙ ap accepts (sym (c .prefix .ensures))
 
 pub prefix-in-spec : {M : Type 1} → statement M
-prefix-in-spec = tie.close (tie.spec extent-in-requires prefix-requires returns)
+prefix-in-spec = tie.close (tie.spec (λ c κs. search needs)
+    (λ c κs. search needs)
+    returns)

@@ -12,32 +12,11 @@ use Rattle.prefixes.proofs.clean_ipv4.Reads as clean-ipv4-reads
 use Rattle.prefixes.proofs.clean_ipv6.Reads as clean-ipv6-reads
 use Rattle.prefixes.proofs.offset_fits.Reads as offset-fits-reads
 
-enum-known-prefix : tie.Need-enum-known-prefix
-enum-known-prefix c = search needs
-
-clean-ipv4-requires : tie.Need-clean-ipv4-requires
-clean-ipv4-requires c κs = search needs
-
 returns : tie.Need-returns
 returns c = c .clean-ipv4 .ensures ∙ sym (ap (λ p. validIn (c .before .before .before .before .before .before .args .family) p) (c .before .before .before .before .prefix .given .1) ∙ yes-yes _ _ _ (eq-eqb _ _ (c .before .before .if1 .taken)) (le-leb _ _ (c .before .if2 .taken)))
 
-enum-known-prefix-2 : tie.Need-enum-known-prefix-2
-enum-known-prefix-2 c = search needs
-
-offset-fits-requires : tie.Need-offset-fits-requires
-offset-fits-requires c κs = search needs
-
-clean-ipv6-requires : tie.Need-clean-ipv6-requires
-clean-ipv6-requires c κs = search needs
-
 returns-2 : tie.Need-returns-2
 returns-2 c = c .clean-ipv6 .ensures ∙ sym (ap (λ p. validIn (c .before .before .before .before .before .before .before .args .family) p) (c .before .before .before .before .before .prefix2 .given .1) ∙ yes-yes _ _ _ (eq-eqb _ _ (c .before .before .before .if3 .taken)) (sym (c .before .before .offset-fits .ensures) ∙ c .before .if4 .taken))
-
-enum-told : tie.Need-enum-told
-enum-told c = search needs
-
-enum-told-2 : tie.Need-enum-told-2
-enum-told-2 c = search needs
 
 returns-3 : tie.Need-returns-3
 returns-3 c = sym (ap (λ p. validIn (c .before .before .before .before .before .args .family) p) (c .before .before .before .prefix .given .1) ∙ yes-no _ _ _ (eq-eqb _ _ (c .before .if1 .taken)) (lt-leb _ _ (c .if2 .left)))
@@ -51,28 +30,22 @@ returns-5 c = sym (ap (λ p. validIn (c .before .before .before .before .before 
 returns-6 : tie.Need-returns-6
 returns-6 c = sym (ap (λ p. validIn (c .before .before .before .before .args .family) p) (c .before .before .prefix2 .given .1) ∙ no-one _ _ (ne-eqb _ _ (c .if3 .left)))
 
-returns-7 : tie.Need-returns-7
-returns-7 c = search needs
-
-returns-8 : tie.Need-returns-8
-returns-8 c = search needs
-
 pub valid-spec : {M : Type 1} → statement M
 valid-spec =
     tie.close
     (tie.spec
-    enum-known-prefix
-    clean-ipv4-requires
+    (λ c. search needs)
+    (λ c κs. search needs)
     returns
-    enum-known-prefix-2
-    offset-fits-requires
-    clean-ipv6-requires
+    (λ c. search needs)
+    (λ c κs. search needs)
+    (λ c κs. search needs)
     returns-2
-    enum-told
-    enum-told-2
+    (λ c. search needs)
+    (λ c. search needs)
     returns-3
     returns-4
     returns-5
     returns-6
-    returns-7
-    returns-8)
+    (λ c. search needs)
+    (λ c. search needs))

@@ -10,15 +10,6 @@ use Rattle.prefixwriting.proofs.put_one.Reads as reads
 use Rattle.prefixwriting.proofs.put_one.Lts as lts
 use Rattle.octets.proofs.write_pattern.Reads as write-pattern-reads
 
-slice-write-out : tie.Need-slice-write-out
-slice-write-out c = search needs
-
-add-from : tie.Need-add-from
-add-from c = search needs
-
-write-pattern-requires : tie.Need-write-pattern-requires
-write-pattern-requires c κs = search needs
-
 same-length : tie.Need-same-length
 same-length c = let a = c .before .before .before .before .before .args in long-next (a .out .now) _ (a .at) (a .a) (a .at + 1) (spelled (a .k) (num (a .v))) (c .before .before .write-pattern .ensures)
 
@@ -27,4 +18,8 @@ returns c = let a = c .before .before .before .before .before .args in sets-next
 
 pub put-one-spec : {M : Type 1} → statement M
 put-one-spec =
-    tie.close (tie.spec slice-write-out add-from write-pattern-requires same-length returns)
+    tie.close (tie.spec (λ c. search needs)
+    (λ c. search needs)
+    (λ c κs. search needs)
+    same-length
+    returns)

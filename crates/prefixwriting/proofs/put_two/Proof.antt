@@ -13,12 +13,6 @@ use Rattle.prefixwriting.proofs.put_two.Reads as reads
 use Rattle.prefixwriting.proofs.put_two.Lts as lts
 use Rattle.prefixwriting.proofs.put_one.Reads as put-one-reads
 
-slice-write-out : tie.Need-slice-write-out
-slice-write-out c = search needs
-
-add-from : tie.Need-add-from
-add-from c = search needs
-
 put-one-requires : tie.Need-put-one-requires
 put-one-requires c κs = let a = c .before .before .args in (simp length-set (omega arith), omega arith)
 
@@ -29,4 +23,8 @@ returns : tie.Need-returns
 returns c = let a = c .before .before .before .before .before .args in sets-next (a .out .now) _ (a .at) (a .a) (a .b ∷ spelled (a .k) (num (a .v))) (c .before .before .put-one .ensures)
 
 pub put-two-spec : {M : Type 1} → statement M
-put-two-spec = tie.close (tie.spec slice-write-out add-from put-one-requires same-length returns)
+put-two-spec = tie.close (tie.spec (λ c. search needs)
+    (λ c. search needs)
+    put-one-requires
+    same-length
+    returns)

@@ -8,15 +8,6 @@ use borrow.Author.Needs.{needs}
 use Rattle.ranking.proofs.compare_components.Statement.{statement}
 use Rattle.ranking.proofs.compare_components.Tie as tie
 
-piece-at-requires : tie.Need-piece-at-requires
-piece-at-requires c κs = search needs
-
-enum-known-tag : tie.Need-enum-known-tag
-enum-known-tag c = search needs
-
-same-words-requires : tie.Need-same-words-requires
-same-words-requires c κs = search needs
-
 returns : tie.Need-returns
 returns c =
     let t = c .before .before .before in
@@ -25,18 +16,12 @@ returns c =
     same-prefix (g .values .now) (g .octets .now) (g .first) (g .values2 .now) (g .octets2 .now) (g .first2) (g .words .now) (g .at) (g .words2 .now) (g .at2) _ _
     (sym (a .piece-at .ensures) ∙ t .tag .given .1) (sym (c .before .same-words .ensures) ∙ c .if1 .taken)
 
-piece-at-requires-2 : tie.Need-piece-at-requires-2
-piece-at-requires-2 c κs = search needs
-
 prefix-against-requires : tie.Need-prefix-against-requires
 prefix-against-requires c κs =
     let a = c .before .before .before .before .before .before in
     let s = a .before .before .before .before .before .before .before in
     let g = s .args in
     ap isRecord (c .piece-at2 .ensures) ∙ inside-record (length (g .values2 .now)) (length (g .octets2 .now)) (g .first2) (pieceAt (g .words2 .now) (g .at2)) (s .pre .1 .1)
-
-enum-known-tag-2 : tie.Need-enum-known-tag-2
-enum-known-tag-2 c = search needs
 
 add-list-against : tie.Need-add-list-against
 add-list-against c =
@@ -47,9 +32,6 @@ add-list-against c =
     let i = inside-told (length (g .values .now)) (length (g .octets .now)) (g .first) (pieceAt (g .words .now) (g .at)) _ (sym (a .piece-at .ensures) ∙ t .tag2 .given .1) (s .pre .0 .1) in
     omega (arith, i .0)
 
-piece-at-requires-3 : tie.Need-piece-at-requires-3
-piece-at-requires-3 c κs = search needs
-
 list-against-requires : tie.Need-list-against-requires
 list-against-requires c κs =
     let t = c .before .before in
@@ -59,9 +41,6 @@ list-against-requires c κs =
       inside-told (length (g .values .now)) (length (g .octets .now)) (g .first) (pieceAt (g .words .now) (g .at)) _ (sym (a .piece-at .ensures) ∙ t .tag2 .given .1) (s .pre .0 .1),
       inside-told (length (g .values2 .now)) (length (g .octets2 .now)) (g .first2) (pieceAt (g .words2 .now) (g .at2)) _ (sym (c .piece-at3 .ensures)) (s .pre .1 .1),
     )
-
-enum-told : tie.Need-enum-told
-enum-told c = search needs
 
 returns-2 : tie.Need-returns-2
 returns-2 c =
@@ -94,17 +73,17 @@ pub compare-components-spec : {M : Type 1} → statement M
 compare-components-spec =
     tie.close
     (tie.spec
-    piece-at-requires
-    enum-known-tag
-    same-words-requires
+    (λ c κs. search needs)
+    (λ c. search needs)
+    (λ c κs. search needs)
     returns
-    piece-at-requires-2
+    (λ c κs. search needs)
     prefix-against-requires
-    enum-known-tag-2
+    (λ c. search needs)
     add-list-against
-    piece-at-requires-3
+    (λ c κs. search needs)
     list-against-requires
-    enum-told
+    (λ c. search needs)
     returns-2
     returns-3
     returns-4)

@@ -16,25 +16,10 @@ Inv-loop kind values octets start count values2 octets2 start2 count2 both i₀ 
 abbrev μ-loop : tie.MeasureT-loop
 μ-loop kind values octets start count values2 octets2 start2 count2 both i₀ i = both - i
 
-shorter-requires : tie.Need-shorter-requires Inv-loop μ-loop
-shorter-requires c κs = search needs
-
 loop-holds : tie.Need-loop-holds Inv-loop μ-loop
 loop-holds c =
     let g = c .before .before .before .before .before .args in
     (omega (arith, min-le-left (g .count) (g .count2)), omega (arith, min-le-right (g .count) (g .count2)), omega arith, no-operators)
-
-add-p : tie.Need-add-p Inv-loop μ-loop
-add-p c = search needs
-
-add-q : tie.Need-add-q Inv-loop μ-loop
-add-q c = search needs
-
-shared-slice-read-compare-operators : tie.Need-shared-slice-read-compare-operators Inv-loop μ-loop
-shared-slice-read-compare-operators c = search needs
-
-mul-compare-operators : tie.Need-mul-compare-operators Inv-loop μ-loop
-mul-compare-operators c = search needs
 
 shared-slice-read-compare-operators-2 :
     tie.Need-shared-slice-read-compare-operators-2 Inv-loop μ-loop
@@ -44,18 +29,9 @@ shared-slice-read-compare-operators-3 :
     tie.Need-shared-slice-read-compare-operators-3 Inv-loop μ-loop
 shared-slice-read-compare-operators-3 c = search needs
 
-mul-compare-operators-2 : tie.Need-mul-compare-operators-2 Inv-loop μ-loop
-mul-compare-operators-2 c = search needs
-
 shared-slice-read-compare-operators-4 :
     tie.Need-shared-slice-read-compare-operators-4 Inv-loop μ-loop
 shared-slice-read-compare-operators-4 c = search needs
-
-compare-operators-requires : tie.Need-compare-operators-requires Inv-loop μ-loop
-compare-operators-requires c κs = search needs
-
-enum-told : tie.Need-enum-told Inv-loop μ-loop
-enum-told c = search needs
 
 returns : tie.Need-returns Inv-loop μ-loop
 returns c =
@@ -63,32 +39,17 @@ returns c =
     let l = a .before .before .before .before .before .before in
     sym (operators-tell (l .loop .inv .3) (omega arith) (omega arith) _ (sym (a .compare-operators .ensures) ∙ c .enum-told .given .1))
 
-enum-told-2 : tie.Need-enum-told-2 Inv-loop μ-loop
-enum-told-2 c = search needs
-
 returns-2 : tie.Need-returns-2 Inv-loop μ-loop
 returns-2 c =
     let a = c .before .before in
     let l = a .before .before .before .before .before .before in
     sym (operators-tell (l .loop .inv .3) (omega arith) (omega arith) _ (sym (a .compare-operators .ensures) ∙ c .enum-told2 .given .1))
 
-enum-told-3 : tie.Need-enum-told-3 Inv-loop μ-loop
-enum-told-3 c = search needs
-
-add-i : tie.Need-add-i Inv-loop μ-loop
-add-i c = search needs
-
-loop-less : tie.Need-loop-less Inv-loop μ-loop
-loop-less c = search needs
-
 loop-again : tie.Need-loop-again Inv-loop μ-loop
 loop-again c =
     let a = c .before .before in
     let l = a .before .before .before .before .before .before in
     (l .loop .inv .0, l .loop .inv .1, omega arith, operators-equal (l .loop .inv .3) (omega arith) (omega arith) (sym (a .compare-operators .ensures) ∙ c .enum-told3 .given .1))
-
-compare-numbers-requires : tie.Need-compare-numbers-requires Inv-loop μ-loop
-compare-numbers-requires c κs = search needs
 
 returns-3 : tie.Need-returns-3 Inv-loop μ-loop
 returns-3 c =
@@ -103,24 +64,24 @@ compare-lists-spec =
     (tie.spec
     Inv-loop
     μ-loop
-    shorter-requires
+    (λ c κs. search needs)
     loop-holds
-    add-p
-    add-q
-    shared-slice-read-compare-operators
-    mul-compare-operators
+    (λ c. search needs)
+    (λ c. search needs)
+    (λ c. search needs)
+    (λ c. search needs)
     shared-slice-read-compare-operators-2
     shared-slice-read-compare-operators-3
-    mul-compare-operators-2
+    (λ c. search needs)
     shared-slice-read-compare-operators-4
-    compare-operators-requires
-    enum-told
+    (λ c κs. search needs)
+    (λ c. search needs)
     returns
-    enum-told-2
+    (λ c. search needs)
     returns-2
-    enum-told-3
-    add-i
-    loop-less
+    (λ c. search needs)
+    (λ c. search needs)
+    (λ c. search needs)
     loop-again
-    compare-numbers-requires
+    (λ c κs. search needs)
     returns-3)

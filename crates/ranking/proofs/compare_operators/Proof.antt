@@ -12,11 +12,7 @@ returns c =
     let t = both _ _ (c .if1 .taken) in
     same-operator (g .kind) (g .octet) (g .value) (g .octet2) (g .value2) (eqb-true _ _ (t .0)) (eqb-true _ _ (t .1))
 
-compare-written-requires : tie.Need-compare-written-requires
-compare-written-requires c κs = search needs
-
-returns-2 : tie.Need-returns-2
-returns-2 c = search needs
-
 pub compare-operators-spec : {M : Type 1} → statement M
-compare-operators-spec = tie.close (tie.spec returns compare-written-requires returns-2)
+compare-operators-spec = tie.close (tie.spec returns
+    (λ c κs. search needs)
+    (λ c. search needs))

@@ -8,48 +8,6 @@ use borrow.Author.Needs.{needs}
 use Rattle.ranking.proofs.compare_prefixes.Statement.{statement}
 use Rattle.ranking.proofs.compare_prefixes.Tie as tie
 
-front-of-requires : tie.Need-front-of-requires
-front-of-requires c κs = search needs
-
-front-of-requires-2 : tie.Need-front-of-requires-2
-front-of-requires-2 c κs = search needs
-
-cast-compare-numbers : tie.Need-cast-compare-numbers
-cast-compare-numbers c = search needs
-
-cast-compare-numbers-2 : tie.Need-cast-compare-numbers-2
-cast-compare-numbers-2 c = search needs
-
-compare-numbers-requires : tie.Need-compare-numbers-requires
-compare-numbers-requires c κs = search needs
-
-cast-shorter : tie.Need-cast-shorter
-cast-shorter c = search needs
-
-cast-shorter-2 : tie.Need-cast-shorter-2
-cast-shorter-2 c = search needs
-
-shorter-requires : tie.Need-shorter-requires
-shorter-requires c κs = search needs
-
-compare-bits-requires : tie.Need-compare-bits-requires
-compare-bits-requires c κs = search needs
-
-cast-compare-numbers-3 : tie.Need-cast-compare-numbers-3
-cast-compare-numbers-3 c = search needs
-
-cast-compare-numbers-4 : tie.Need-cast-compare-numbers-4
-cast-compare-numbers-4 c = search needs
-
-compare-numbers-requires-2 : tie.Need-compare-numbers-requires-2
-compare-numbers-requires-2 c κs = search needs
-
-then-by-requires : tie.Need-then-by-requires
-then-by-requires c κs = search needs
-
-then-by-requires-2 : tie.Need-then-by-requires-2
-then-by-requires-2 c κs = search needs
-
 returns : tie.Need-returns
 unfolding rankFront
 returns c =
@@ -70,18 +28,18 @@ pub compare-prefixes-spec : {M : Type 1} → statement M
 compare-prefixes-spec =
     tie.close
     (tie.spec
-    front-of-requires
-    front-of-requires-2
-    cast-compare-numbers
-    cast-compare-numbers-2
-    compare-numbers-requires
-    cast-shorter
-    cast-shorter-2
-    shorter-requires
-    compare-bits-requires
-    cast-compare-numbers-3
-    cast-compare-numbers-4
-    compare-numbers-requires-2
-    then-by-requires
-    then-by-requires-2
+    (λ c κs. search needs)
+    (λ c κs. search needs)
+    (λ c. search needs)
+    (λ c. search needs)
+    (λ c κs. search needs)
+    (λ c. search needs)
+    (λ c. search needs)
+    (λ c κs. search needs)
+    (λ c κs. search needs)
+    (λ c. search needs)
+    (λ c. search needs)
+    (λ c κs. search needs)
+    (λ c κs. search needs)
+    (λ c κs. search needs)
     returns)

@@ -17,21 +17,6 @@ Inv-loop words at values octets words2 at2 values2 octets2 held held2 first firs
 abbrev μ-loop : tie.MeasureT-loop
 μ-loop words at values octets words2 at2 values2 octets2 held held2 first first2 both i₀ i = both - i
 
-count-at-requires : tie.Need-count-at-requires Inv-loop μ-loop
-count-at-requires c κs = search needs
-
-count-at-requires-2 : tie.Need-count-at-requires-2 Inv-loop μ-loop
-count-at-requires-2 c κs = search needs
-
-first-at-requires : tie.Need-first-at-requires Inv-loop μ-loop
-first-at-requires c κs = search needs
-
-first-at-requires-2 : tie.Need-first-at-requires-2 Inv-loop μ-loop
-first-at-requires-2 c κs = search needs
-
-shorter-requires : tie.Need-shorter-requires Inv-loop μ-loop
-shorter-requires c κs = search needs
-
 loop-holds : tie.Need-loop-holds Inv-loop μ-loop
 loop-holds c =
     let f2 = c .before in
@@ -46,18 +31,6 @@ loop-holds c =
     let m = min-le-right (n .count-at .result) (n2 .count-at2 .result) in
     (omega arith, omega arith, omega (arith, few w), omega arith, w, w2, no-components)
 
-mul-compare-components : tie.Need-mul-compare-components Inv-loop μ-loop
-mul-compare-components c = search needs
-
-add-compare-components : tie.Need-add-compare-components Inv-loop μ-loop
-add-compare-components c = search needs
-
-mul-compare-components-2 : tie.Need-mul-compare-components-2 Inv-loop μ-loop
-mul-compare-components-2 c = search needs
-
-add-compare-components-2 : tie.Need-add-compare-components-2 Inv-loop μ-loop
-add-compare-components-2 c = search needs
-
 compare-components-requires : tie.Need-compare-components-requires Inv-loop μ-loop
 compare-components-requires c κs =
     let l = c .before in
@@ -65,17 +38,11 @@ compare-components-requires c κs =
     let w2 = l .loop .inv .5 in
     ((omega (arith, w .rankable .whole), inside-at w _ (omega arith)), (omega (arith, w2 .rankable .whole), inside-at w2 _ (omega arith)))
 
-enum-told : tie.Need-enum-told Inv-loop μ-loop
-enum-told c = search needs
-
 returns : tie.Need-returns Inv-loop μ-loop
 returns c =
     let a = c .before .before in
     let v = a .before .before .loop .inv in
     sym (components-tell (v .4) (v .5) (v .6) (omega arith) (omega arith) _ (sym (a .compare-components .ensures) ∙ c .enum-told .given .1))
-
-enum-told-2 : tie.Need-enum-told-2 Inv-loop μ-loop
-enum-told-2 c = search needs
 
 returns-2 : tie.Need-returns-2 Inv-loop μ-loop
 returns-2 c =
@@ -83,23 +50,11 @@ returns-2 c =
     let v = a .before .before .loop .inv in
     sym (components-tell (v .4) (v .5) (v .6) (omega arith) (omega arith) _ (sym (a .compare-components .ensures) ∙ c .enum-told2 .given .1))
 
-enum-told-3 : tie.Need-enum-told-3 Inv-loop μ-loop
-enum-told-3 c = search needs
-
-add-i : tie.Need-add-i Inv-loop μ-loop
-add-i c = search needs
-
-loop-less : tie.Need-loop-less Inv-loop μ-loop
-loop-less c = search needs
-
 loop-again : tie.Need-loop-again Inv-loop μ-loop
 loop-again c =
     let a = c .before .before in
     let v = a .before .before .loop .inv in
     (v .0, v .1, v .2, omega arith, v .4, v .5, components-equal (v .4) (v .5) (v .6) (omega arith) (omega arith) (sym (a .compare-components .ensures) ∙ c .enum-told3 .given .1))
-
-compare-numbers-requires : tie.Need-compare-numbers-requires Inv-loop μ-loop
-compare-numbers-requires c κs = search needs
 
 returns-3 : tie.Need-returns-3 Inv-loop μ-loop
 returns-3 c =
@@ -116,24 +71,24 @@ compare-rules-spec =
     (tie.spec
     Inv-loop
     μ-loop
-    count-at-requires
-    count-at-requires-2
-    first-at-requires
-    first-at-requires-2
-    shorter-requires
+    (λ c κs. search needs)
+    (λ c κs. search needs)
+    (λ c κs. search needs)
+    (λ c κs. search needs)
+    (λ c κs. search needs)
     loop-holds
-    mul-compare-components
-    add-compare-components
-    mul-compare-components-2
-    add-compare-components-2
+    (λ c. search needs)
+    (λ c. search needs)
+    (λ c. search needs)
+    (λ c. search needs)
     compare-components-requires
-    enum-told
+    (λ c. search needs)
     returns
-    enum-told-2
+    (λ c. search needs)
     returns-2
-    enum-told-3
-    add-i
-    loop-less
+    (λ c. search needs)
+    (λ c. search needs)
+    (λ c. search needs)
     loop-again
-    compare-numbers-requires
+    (λ c κs. search needs)
     returns-3)

@@ -5,33 +5,6 @@ use borrow.Author.Needs.{needs}
 use Rattle.ranking.proofs.compare_written.Statement.{statement}
 use Rattle.ranking.proofs.compare_written.Tie as tie
 
-cleared-requires : tie.Need-cleared-requires
-cleared-requires c κs = search needs
-
-cast-compare-numbers : tie.Need-cast-compare-numbers
-cast-compare-numbers c = search needs
-
-cleared-requires-2 : tie.Need-cleared-requires-2
-cleared-requires-2 c κs = search needs
-
-cast-compare-numbers-2 : tie.Need-cast-compare-numbers-2
-cast-compare-numbers-2 c = search needs
-
-compare-numbers-requires : tie.Need-compare-numbers-requires
-compare-numbers-requires c κs = search needs
-
-cut-requires : tie.Need-cut-requires
-cut-requires c κs = search needs
-
-cut-requires-2 : tie.Need-cut-requires-2
-cut-requires-2 c κs = search needs
-
-compare-numbers-requires-2 : tie.Need-compare-numbers-requires-2
-compare-numbers-requires-2 c κs = search needs
-
-then-by-requires : tie.Need-then-by-requires
-then-by-requires c κs = search needs
-
 returns : tie.Need-returns
 unfolding rankOp
 returns c =
@@ -48,13 +21,13 @@ pub compare-written-spec : {M : Type 1} → statement M
 compare-written-spec =
     tie.close
     (tie.spec
-    cleared-requires
-    cast-compare-numbers
-    cleared-requires-2
-    cast-compare-numbers-2
-    compare-numbers-requires
-    cut-requires
-    cut-requires-2
-    compare-numbers-requires-2
-    then-by-requires
+    (λ c κs. search needs)
+    (λ c. search needs)
+    (λ c κs. search needs)
+    (λ c. search needs)
+    (λ c κs. search needs)
+    (λ c κs. search needs)
+    (λ c κs. search needs)
+    (λ c κs. search needs)
+    (λ c κs. search needs)
     returns)

@@ -8,24 +8,6 @@ use borrow.Author.Needs.{needs}
 use Rattle.ranking.proofs.list_against.Statement.{statement}
 use Rattle.ranking.proofs.list_against.Tie as tie
 
-enum-known-other : tie.Need-enum-known-other
-enum-known-other c = search needs
-
-cast-compare-numbers : tie.Need-cast-compare-numbers
-cast-compare-numbers c = search needs
-
-compare-numbers-requires : tie.Need-compare-numbers-requires
-compare-numbers-requires c κs = search needs
-
-enum-told : tie.Need-enum-told
-enum-told c = search needs
-
-enum-told-2 : tie.Need-enum-told-2
-enum-told-2 c = search needs
-
-kind-of-requires : tie.Need-kind-of-requires
-kind-of-requires c κs = search needs
-
 add-compare-lists : tie.Need-add-compare-lists
 add-compare-lists c =
     let w = c .before .before .before .before .before in
@@ -40,24 +22,6 @@ compare-lists-requires c κs =
     let s = w .before .before .before .before .before .before in
     let g = s .args in
     (s .pre .0, inside-told (length (g .values2 .now)) (length (g .octets2 .now)) (g .first2) (g .other) _ (w .other .given .1) (s .pre .1))
-
-enum-told-3 : tie.Need-enum-told-3
-enum-told-3 c = search needs
-
-enum-known-other-2 : tie.Need-enum-known-other-2
-enum-known-other-2 c = search needs
-
-cast-compare-numbers-2 : tie.Need-cast-compare-numbers-2
-cast-compare-numbers-2 c = search needs
-
-compare-numbers-requires-2 : tie.Need-compare-numbers-requires-2
-compare-numbers-requires-2 c κs = search needs
-
-then-by-requires : tie.Need-then-by-requires
-then-by-requires c κs = search needs
-
-enum-told-4 : tie.Need-enum-told-4
-enum-told-4 c = search needs
 
 returns : tie.Need-returns
 returns c =
@@ -105,20 +69,20 @@ pub list-against-spec : {M : Type 1} → statement M
 list-against-spec =
     tie.close
     (tie.spec
-    enum-known-other
-    cast-compare-numbers
-    compare-numbers-requires
-    enum-told
-    enum-told-2
-    kind-of-requires
+    (λ c. search needs)
+    (λ c. search needs)
+    (λ c κs. search needs)
+    (λ c. search needs)
+    (λ c. search needs)
+    (λ c κs. search needs)
     add-compare-lists
     compare-lists-requires
-    enum-told-3
-    enum-known-other-2
-    cast-compare-numbers-2
-    compare-numbers-requires-2
-    then-by-requires
-    enum-told-4
+    (λ c. search needs)
+    (λ c. search needs)
+    (λ c. search needs)
+    (λ c κs. search needs)
+    (λ c κs. search needs)
+    (λ c. search needs)
     returns
     returns-2
     returns-3

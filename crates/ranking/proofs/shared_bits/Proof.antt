@@ -8,15 +8,6 @@ use borrow.Author.Needs.{needs}
 use Rattle.ranking.proofs.shared_bits.Statement.{statement}
 use Rattle.ranking.proofs.shared_bits.Tie as tie
 
-shared-half-requires : tie.Need-shared-half-requires
-shared-half-requires c κs = search needs
-
-add-result : tie.Need-add-result
-add-result c = search needs
-
-shared-half-requires-2 : tie.Need-shared-half-requires-2
-shared-half-requires-2 c κs = search needs
-
 returns : tie.Need-returns
 returns c =
     let s = c .before .before .before .before .args in
@@ -31,4 +22,8 @@ returns-2 c =
 
 pub shared-bits-spec : {M : Type 1} → statement M
 shared-bits-spec =
-    tie.close (tie.spec shared-half-requires add-result shared-half-requires-2 returns returns-2)
+    tie.close (tie.spec (λ c κs. search needs)
+    (λ c. search needs)
+    (λ c κs. search needs)
+    returns
+    returns-2)

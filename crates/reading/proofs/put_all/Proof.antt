@@ -64,9 +64,6 @@ loop-again c =
     let h = i .before .loop .inv .1 in
     (omega (arith, e .1 .1 .1 .0, bounds h (i .loop-test .taken)), stored-more h (i .loop-test .taken) _ _ _ (e .1 .1 .1 .0) (e .1 .1 .1 .1) (e .0) (e .1 .0) (e .1 .1 .0))
 
-family-of-requires : tie.Need-family-of-requires Inv-loop μ-loop
-family-of-requires c κs = search needs
-
 put-tail-requires : tie.Need-put-tail-requires Inv-loop μ-loop
 put-tail-requires c κs =
     let h = c .before .before .before .loop .inv .1 in
@@ -103,7 +100,7 @@ put-all-spec =
     add-count
     loop-less
     loop-again
-    family-of-requires
+    (λ c κs. search needs)
     put-tail-requires
     same-length
     same-length-2

@@ -9,22 +9,10 @@ use Rattle.lists.proofs.fill.Reads as fill-reads
 use Rattle.prefixes.proofs.prefix_in.Reads as prefix-in-reads
 use Rattle.stored.proofs.put_piece.Reads as put-piece-reads
 
-shared-slice-read-tag : tie.Need-shared-slice-read-tag
-shared-slice-read-tag c = search needs
-
-add-from : tie.Need-add-from
-add-from c = search needs
-
 prefix-in-requires : tie.Need-prefix-in-requires
 prefix-in-requires c κs =
     let g = c .before .before .before .before .before .before in
     extent-there (g .args .reading) (g .args .s .now) (g .args .at) (g .args .first) (g .args .start) (g .pre .0) (c .if1 .taken)
-
-put-piece-requires : tie.Need-put-piece-requires
-put-piece-requires c κs = search needs
-
-same-length : tie.Need-same-length
-same-length c = search needs
 
 returns : tie.Need-returns
 returns c =
@@ -35,26 +23,11 @@ returns c =
     prefix-post (g .args .reading) (g .args .s .now) (g .args .at) (g .args .first) (g .args .start) (g .pre .0) (k .if1 .taken) (g .args .words .now) (g .args .values .now) (g .args .octets .now) (g .args .word)
     (p .prefix-in .ensures) (u .put-piece .ensures)
 
-add-fill : tie.Need-add-fill
-add-fill c = search needs
-
 fill-requires : tie.Need-fill-requires
 fill-requires c κs =
     let k = c .before .before in
     let g = k .before .before .before .before .before .before in
     (list-whole (g .args .reading) (g .args .s .now) (g .args .at) (g .args .first) (g .args .start) (g .pre .0) (k .if1 .left), list-room (g .args .reading) (g .args .s .now) (g .args .at) (g .args .first) (g .args .start) (g .pre .0) (k .if1 .left) (g .pre .1 .1))
-
-put-piece-requires-2 : tie.Need-put-piece-requires-2
-put-piece-requires-2 c κs = search needs
-
-same-length-2 : tie.Need-same-length-2
-same-length-2 c = search needs
-
-same-length-3 : tie.Need-same-length-3
-same-length-3 c = search needs
-
-same-length-4 : tie.Need-same-length-4
-same-length-4 c = search needs
 
 returns-2 : tie.Need-returns-2
 returns-2 c =
@@ -69,16 +42,16 @@ pub put-part-spec : {M : Type 1} → statement M
 put-part-spec =
     tie.close
     (tie.spec
-    shared-slice-read-tag
-    add-from
+    (λ c. search needs)
+    (λ c. search needs)
     prefix-in-requires
-    put-piece-requires
-    same-length
+    (λ c κs. search needs)
+    (λ c. search needs)
     returns
-    add-fill
+    (λ c. search needs)
     fill-requires
-    put-piece-requires-2
-    same-length-2
-    same-length-3
-    same-length-4
+    (λ c κs. search needs)
+    (λ c. search needs)
+    (λ c. search needs)
+    (λ c. search needs)
     returns-2)

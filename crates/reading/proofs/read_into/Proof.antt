@@ -10,15 +10,6 @@ use Rattle.reading.proofs.read_into.Lts as lts
 use Rattle.reading.proofs.store.Reads as store-reads
 use Rattle.reading.proofs.test.Reads as test-reads
 
-test-requires : tie.Need-test-requires
-test-requires c κs = search needs
-
-enum-known-tested : tie.Need-enum-known-tested
-enum-known-tested c = search needs
-
-enum-known-tested-2 : tie.Need-enum-known-tested-2
-enum-known-tested-2 c = search needs
-
 returns : tie.Need-returns
 returns c =
     let t = c .before .before in
@@ -58,15 +49,6 @@ returns-4 c =
     let g = w .before .before .before .before .before in
     test-refused (g .args .reading) (g .args .input .now) (g .args .words .now) (g .args .values .now) (g .args .octets .now) (sym (ap toldInto (c .before .tested .given .1)) ∙ w .test .ensures)
 
-same-length : tie.Need-same-length
-same-length c = search needs
-
-same-length-2 : tie.Need-same-length-2
-same-length-2 c = search needs
-
-same-length-3 : tie.Need-same-length-3
-same-length-3 c = search needs
-
 returns-5 : tie.Need-returns-5
 returns-5 c =
     let p = c .before .before .before .before .before .before in
@@ -81,15 +63,15 @@ pub read-into-spec : {M : Type 1} → statement M
 read-into-spec =
     tie.close
     (tie.spec
-    test-requires
-    enum-known-tested
-    enum-known-tested-2
+    (λ c κs. search needs)
+    (λ c. search needs)
+    (λ c. search needs)
     returns
     returns-2
     returns-3
     store-requires
     returns-4
-    same-length
-    same-length-2
-    same-length-3
+    (λ c. search needs)
+    (λ c. search needs)
+    (λ c. search needs)
     returns-5)

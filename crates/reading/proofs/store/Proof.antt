@@ -21,12 +21,6 @@ tested g = tested-read (g .args .reading) (g .args .input .now) (g .pre .0 .0) (
 shared-slice-read-body-start : tie.Need-shared-slice-read-body-start
 shared-slice-read-body-start c = let k = c in tested (k .before .before .before .before .before) .some
 
-body-start-requires : tie.Need-body-start-requires
-body-start-requires c κs = search needs
-
-bound-requires : tie.Need-bound-requires
-bound-requires c κs = search needs
-
 sub-put-all : tie.Need-sub-put-all
 sub-put-all c = let k = c .before .before in omega (arith, tested (k .before .before .before .before .before) .within .0, c .before .body-start .ensures, c .bound .ensures)
 
@@ -49,15 +43,6 @@ put-all-requires c κs =
     rw (b .before .body-start .ensures, b .bound .ensures)
     (t .walked, (g .pre .1 .0, record { in-values = omega (arith, n, g .pre .1 .1 .in-values); in-octets = omega (arith, n, g .pre .1 .1 .in-octets) }))
 
-same-length : tie.Need-same-length
-same-length c = search needs
-
-same-length-2 : tie.Need-same-length-2
-same-length-2 c = search needs
-
-same-length-3 : tie.Need-same-length-3
-same-length-3 c = search needs
-
 returns : tie.Need-returns
 returns c =
     let p = c .before .before .before .before .before .before in
@@ -71,14 +56,14 @@ store-spec =
     tie.close
     (tie.spec
     shared-slice-read-body-start
-    body-start-requires
-    bound-requires
+    (λ c κs. search needs)
+    (λ c κs. search needs)
     sub-put-all
     part-put-all-start
     part-put-all-end
     sub-put-all-2
     put-all-requires
-    same-length
-    same-length-2
-    same-length-3
+    (λ c. search needs)
+    (λ c. search needs)
+    (λ c. search needs)
     returns)

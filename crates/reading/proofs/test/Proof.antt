@@ -11,28 +11,16 @@ use Rattle.octets.proofs.Cursor.parse_length.Reads as parse-length-reads
 use Rattle.reading.proofs.test_body.Reads as test-body-reads
 use Rattle.reading.proofs.too_long.Reads as too-long-reads
 
-too-long-requires : tie.Need-too-long-requires
-too-long-requires c κs = search needs
-
 returns : tie.Need-returns
 returns c =
     let t = c .before in
     let g = t .before .before in
     over-long (g .args .reading) (g .args .input .now) (sym (t .too-long .ensures) ∙ c .if1 .taken)
 
-parse-length-requires : tie.Need-parse-length-requires
-parse-length-requires c κs = search needs
-
-enum-known-stated : tie.Need-enum-known-stated
-enum-known-stated c = search needs
-
 test-body-requires : tie.Need-test-body-requires
 test-body-requires c κs =
     let k = c .before in
     length-in _ (sym (k .before .before .parse-length .ensures) ∙ ap toldRead (k .stated .given .1))
-
-enum-known-fault : tie.Need-enum-known-fault
-enum-known-fault c = search needs
 
 returns-2 : tie.Need-returns-2
 returns-2 c =
@@ -53,11 +41,11 @@ pub test-spec : {M : Type 1} → statement M
 test-spec =
     tie.close
     (tie.spec
-    too-long-requires
+    (λ c κs. search needs)
     returns
-    parse-length-requires
-    enum-known-stated
+    (λ c κs. search needs)
+    (λ c. search needs)
     test-body-requires
-    enum-known-fault
+    (λ c. search needs)
     returns-2
     returns-3)

@@ -22,19 +22,10 @@ in-body c =
     let p = g .pre in
     rw (c .bound .ensures) (bound-in (g .args .reading) (length (g .args .input .now)) (g .args .stated .next .at) (g .args .stated .size) (omega arith))
 
-sub-if1 : tie.Need-sub-if1
-sub-if1 c = search needs
-
 returns : tie.Need-returns
 returns c =
     let g = c .before .before in
     stated-past (g .args .reading) (g .args .input .now) (g .args .stated .next .at) (g .args .stated .size) (g .pre) (c .if1 .taken)
-
-add-used : tie.Need-add-used
-add-used c = search needs
-
-bound-requires : tie.Need-bound-requires
-bound-requires c κs = search needs
 
 sub-walk : tie.Need-sub-walk
 sub-walk c = in-body c .0
@@ -44,15 +35,6 @@ part-walk-start c = in-body c .0
 
 part-walk-end : tie.Need-part-walk-end
 part-walk-end c = in-body c .1
-
-walk-requires : tie.Need-walk-requires
-walk-requires c κs = search needs
-
-enum-known-operators : tie.Need-enum-known-operators
-enum-known-operators c = search needs
-
-enum-known-fault : tie.Need-enum-known-fault
-enum-known-fault c = search needs
 
 returns-2 : tie.Need-returns-2
 returns-2 c =
@@ -74,15 +56,15 @@ pub test-body-spec : {M : Type 1} → statement M
 test-body-spec =
     tie.close
     (tie.spec
-    sub-if1
+    (λ c. search needs)
     returns
-    add-used
-    bound-requires
+    (λ c. search needs)
+    (λ c κs. search needs)
     sub-walk
     part-walk-start
     part-walk-end
-    walk-requires
-    enum-known-operators
-    enum-known-fault
+    (λ c κs. search needs)
+    (λ c. search needs)
+    (λ c. search needs)
     returns-2
     returns-3)

@@ -12,14 +12,12 @@ returns c = let a = c .before .args in place-past (a .t1) (a .count) (a .place) 
 returns-2 : tie.Need-returns-2
 returns-2 c = let a = c .before .before .args in place-past (a .t1) (a .count) (a .place) (held-outside (a .t1) (a .count) (a .place) (omega arith))
 
-mul-slot : tie.Need-mul-slot
-mul-slot c = search needs
-
-array-copy-out-slot : tie.Need-array-copy-out-slot
-array-copy-out-slot c = search needs
-
 returns-3 : tie.Need-returns-3
 returns-3 c = let a = c .before .before .before .args in sym (place-in (a .t1) (a .count) (a .place) (omega arith))
 
 pub component-in-spec : {M : Type 1} → statement M
-component-in-spec = tie.close (tie.spec returns returns-2 mul-slot array-copy-out-slot returns-3)
+component-in-spec = tie.close (tie.spec returns
+    returns-2
+    (λ c. search needs)
+    (λ c. search needs)
+    returns-3)

@@ -22,27 +22,12 @@ loop-holds c = (omega arith, refl)
 returns : tie.Need-returns Inv-loop μ-loop
 returns c = let a = c .before .before .before .args in let l = c .before .before .loop in holds-end _ _ (l .i) (l .inv .1) (held-past (a .t1) (a .count) (l .i) (omega arith))
 
-mul-slot : tie.Need-mul-slot Inv-loop μ-loop
-mul-slot c = search needs
-
-array-copy-out-slot : tie.Need-array-copy-out-slot Inv-loop μ-loop
-array-copy-out-slot c = search needs
-
-counts-as-requires : tie.Need-counts-as-requires Inv-loop μ-loop
-counts-as-requires c κs = search needs
-
 returns-2 : tie.Need-returns-2 Inv-loop μ-loop
 returns-2 c = let a = c .before .before .before .before .before .before .args in
     let l = c .before .before .before .before .before .loop in
     let h : l .i < a .count = omega arith in
     holds-here _ _ (l .i) (l .inv .1) (held-in (a .t1) (a .count) (l .i) h (omega arith))
     (eq-eqb _ _ (ap countsAs (place-in (a .t1) (a .count) (l .i) h) ∙ sym (c .before .counts-as .ensures) ∙ c .if2 .taken))
-
-add-i : tie.Need-add-i Inv-loop μ-loop
-add-i c = search needs
-
-loop-less : tie.Need-loop-less Inv-loop μ-loop
-loop-less c = search needs
 
 loop-again : tie.Need-loop-again Inv-loop μ-loop
 loop-again c = let a = c .before .before .before .before .before .before .args in
@@ -64,11 +49,11 @@ holds-in-spec =
     μ-loop
     loop-holds
     returns
-    mul-slot
-    array-copy-out-slot
-    counts-as-requires
+    (λ c. search needs)
+    (λ c. search needs)
+    (λ c κs. search needs)
     returns-2
-    add-i
-    loop-less
+    (λ c. search needs)
+    (λ c. search needs)
     loop-again
     returns-3)

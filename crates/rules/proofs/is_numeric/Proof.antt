@@ -7,11 +7,10 @@ use Rattle.rules.proofs.is_numeric.Tie as tie
 returns : tie.Need-returns
 returns c = rw (lt-ltb _ 3 (c .if1 .taken))
 
-is-bitmask-requires : tie.Need-is-bitmask-requires
-is-bitmask-requires c κs = search needs
-
 returns-2 : tie.Need-returns-2
 returns-2 c = rw (le-ltb _ 3 (c .before .if1 .left), c .is-bitmask .ensures)
 
 pub is-numeric-spec : {M : Type 1} → statement M
-is-numeric-spec = tie.close (tie.spec returns is-bitmask-requires returns-2)
+is-numeric-spec = tie.close (tie.spec returns
+    (λ c κs. search needs)
+    returns-2)

@@ -20,27 +20,9 @@ abbrev μ-loop : tie.MeasureT-loop
 loop-holds : tie.Need-loop-holds Inv-loop μ-loop
 loop-holds c = let a = c .before .args in let e : a .base ≡ a .base + 4 * 0 = omega arith in let f : a .count ≡ a .count - 0 = omega arith in (omega arith, ap₂ (λ (k j : ℕ). recordsFrom k (a .words .now) j) f e)
 
-mul-piece-at : tie.Need-mul-piece-at Inv-loop μ-loop
-mul-piece-at c = search needs
-
-add-piece-at : tie.Need-add-piece-at Inv-loop μ-loop
-add-piece-at c = search needs
-
-piece-at-requires : tie.Need-piece-at-requires Inv-loop μ-loop
-piece-at-requires c κs = search needs
-
-is-record-requires : tie.Need-is-record-requires Inv-loop μ-loop
-is-record-requires c κs = search needs
-
 returns : tie.Need-returns Inv-loop μ-loop
 returns c = let l = c .before .before .before .before .loop in
     sym (l .inv .1 ∙ records-by _ _ _ (l .i) (omega arith) false (ap isRecord (sym (c .before .before .piece-at .ensures)) ∙ sym (c .before .is-record .ensures) ∙ not-true _ (c .if1 .taken)))
-
-add-i : tie.Need-add-i Inv-loop μ-loop
-add-i c = search needs
-
-loop-less : tie.Need-loop-less Inv-loop μ-loop
-loop-less c = search needs
 
 loop-again : tie.Need-loop-again Inv-loop μ-loop
 loop-again c = let l = c .before .before .before .before .loop in
@@ -56,12 +38,12 @@ all-records-spec =
     Inv-loop
     μ-loop
     loop-holds
-    mul-piece-at
-    add-piece-at
-    piece-at-requires
-    is-record-requires
+    (λ c. search needs)
+    (λ c. search needs)
+    (λ c κs. search needs)
+    (λ c κs. search needs)
     returns
-    add-i
-    loop-less
+    (λ c. search needs)
+    (λ c. search needs)
     loop-again
     returns-2)

@@ -12,56 +12,17 @@ use Rattle.stored.proofs.is_framed.Reads as reads
 use Rattle.stored.proofs.is_framed.Lts as lts
 use Rattle.stored.proofs.all_zero.Reads as all-zero-reads
 
-add-count : tie.Need-add-count
-add-count c = search needs
-
-mul-count : tie.Need-mul-count
-mul-count c = search needs
-
-shared-slice-read-count : tie.Need-shared-slice-read-count
-shared-slice-read-count c = search needs
-
 returns : tie.Need-returns
 returns c = sym (many _ _ (c .if1 .taken))
 
-add-if2 : tie.Need-add-if2
-add-if2 c = search needs
-
-mul-if2 : tie.Need-mul-if2
-mul-if2 c = search needs
-
-shared-slice-read-if2 : tie.Need-shared-slice-read-if2
-shared-slice-read-if2 c = search needs
-
 returns-2 : tie.Need-returns-2
 returns-2 c = sym (no-family _ _ (c .before .before .if1 .left) (c .if2 .taken))
-
-mul-all-zero : tie.Need-mul-all-zero
-mul-all-zero c = search needs
-
-add-all-zero : tie.Need-add-all-zero
-add-all-zero c = search needs
-
-add-all-zero-2 : tie.Need-add-all-zero-2
-add-all-zero-2 c = search needs
-
-all-zero-requires : tie.Need-all-zero-requires
-all-zero-requires c κs = search needs
 
 returns-3 : tie.Need-returns-3
 returns-3 c =
     let e = c .before .before in
     let a = e .before .before .before .before .before .args in
     sym (frame-by _ _ (e .before .before .if1 .left) (e .if2 .left) ∙ ap (λ t. t && zerosFrom 9 (a .words .now) (a .base + 55)) (sym (unused _ _ _) ∙ sym (c .before .all-zero .ensures) ∙ not-true _ (c .if3 .taken)))
-
-add-all-zero-3 : tie.Need-add-all-zero-3
-add-all-zero-3 c = search needs
-
-add-all-zero-4 : tie.Need-add-all-zero-4
-add-all-zero-4 c = search needs
-
-all-zero-requires-2 : tie.Need-all-zero-requires-2
-all-zero-requires-2 c κs = search needs
 
 returns-4 : tie.Need-returns-4
 returns-4 c =
@@ -74,20 +35,20 @@ pub is-framed-spec : {M : Type 1} → statement M
 is-framed-spec =
     tie.close
     (tie.spec
-    add-count
-    mul-count
-    shared-slice-read-count
+    (λ c. search needs)
+    (λ c. search needs)
+    (λ c. search needs)
     returns
-    add-if2
-    mul-if2
-    shared-slice-read-if2
+    (λ c. search needs)
+    (λ c. search needs)
+    (λ c. search needs)
     returns-2
-    mul-all-zero
-    add-all-zero
-    add-all-zero-2
-    all-zero-requires
+    (λ c. search needs)
+    (λ c. search needs)
+    (λ c. search needs)
+    (λ c κs. search needs)
     returns-3
-    add-all-zero-3
-    add-all-zero-4
-    all-zero-requires-2
+    (λ c. search needs)
+    (λ c. search needs)
+    (λ c κs. search needs)
     returns-4)

@@ -12,12 +12,6 @@ use Rattle.stored.proofs.all_records.Reads as all-records-reads
 use Rattle.stored.proofs.count_at.Reads as count-at-reads
 use Rattle.stored.proofs.is_framed.Reads as is-framed-reads
 
-is-framed-requires : tie.Need-is-framed-requires
-is-framed-requires c κs = search needs
-
-count-at-requires : tie.Need-count-at-requires
-count-at-requires c κs = search needs
-
 all-records-requires : tie.Need-all-records-requires
 all-records-requires c κs = let f = framed _ _ (sym (c .before .before .is-framed .ensures) ∙ c .before .if1 .taken) .few in omega (arith, f, c .count-at .ensures)
 
@@ -33,4 +27,8 @@ returns-2 c = sym (no-frame _ _ (sym (c .before .is-framed .ensures) ∙ c .if1 
 pub is-rule-spec : {M : Type 1} → statement M
 is-rule-spec =
     tie.close
-    (tie.spec is-framed-requires count-at-requires all-records-requires returns returns-2)
+    (tie.spec (λ c κs. search needs)
+    (λ c κs. search needs)
+    all-records-requires
+    returns
+    returns-2)

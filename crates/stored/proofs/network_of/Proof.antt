@@ -4,15 +4,6 @@ use borrow.Author.Needs.{needs}
 use Rattle.stored.proofs.network_of.Statement.{statement}
 use Rattle.stored.proofs.network_of.Tie as tie
 
-cast-length : tie.Need-cast-length
-cast-length c = search needs
-
-cast-offset : tie.Need-cast-offset
-cast-offset c = search needs
-
-cast-address : tie.Need-cast-address
-cast-address c = search needs
-
 returns : tie.Need-returns
 returns c = rw (c .match .keys1)
 
@@ -27,4 +18,10 @@ returns-4 c = rw (ne-eqb _ 0 (c .match .rest .0 .0 .1), ne-eqb _ 1 (c .match .re
 
 pub network-of-spec : {M : Type 1} → statement M
 network-of-spec =
-    tie.close (tie.spec cast-length cast-offset cast-address returns returns-2 returns-3 returns-4)
+    tie.close (tie.spec (λ c. search needs)
+    (λ c. search needs)
+    (λ c. search needs)
+    returns
+    returns-2
+    returns-3
+    returns-4)

@@ -7,15 +7,6 @@ use Rattle.stored.proofs.Words.{piece-prefix}
 use Rattle.stored.proofs.prefix_in.Statement.{statement}
 use Rattle.stored.proofs.prefix_in.Tie as tie
 
-network-of-requires : tie.Need-network-of-requires
-network-of-requires c κs = search needs
-
-prefix-quad-requires : tie.Need-prefix-quad-requires
-prefix-quad-requires c κs = search needs
-
-same-quad-requires : tie.Need-same-quad-requires
-same-quad-requires c κs = search needs
-
 returns : tie.Need-returns
 returns c = let b = c .before .before .before .before .before in
     let a = b .args in
@@ -30,8 +21,8 @@ pub prefix-in-spec : {M : Type 1} → statement M
 prefix-in-spec =
     tie.close
     (tie.spec
-    network-of-requires
-    prefix-quad-requires
-    same-quad-requires
+    (λ c κs. search needs)
+    (λ c κs. search needs)
+    (λ c κs. search needs)
     returns
     returns-2)

@@ -10,17 +10,11 @@ use Rattle.stored.proofs.put_piece.Lts as lts
 use Rattle.stored.proofs.put_words.Reads as put-words-reads
 use Rattle.stored.proofs.quad_of.Reads as quad-of-reads
 
-quad-of-requires : tie.Need-quad-of-requires
-quad-of-requires c κs = search needs
-
-put-words-requires : tie.Need-put-words-requires
-put-words-requires c κs = search needs
-
-same-length : tie.Need-same-length
-same-length c = search needs
-
 returns : tie.Need-returns
 returns c = let a = c .before .before .before .before .before .before .args in c .before .before .put-words .ensures ∙ ap (λ q. sets (a .words .now) (a .at) (quadWords q)) (c .before .before .before .before .quad-of .ensures)
 
 pub put-piece-spec : {M : Type 1} → statement M
-put-piece-spec = tie.close (tie.spec quad-of-requires put-words-requires same-length returns)
+put-piece-spec = tie.close (tie.spec (λ c κs. search needs)
+    (λ c κs. search needs)
+    (λ c. search needs)
+    returns)

@@ -8,24 +8,6 @@ use Rattle.stored.proofs.quad_of.Reads as reads
 use Rattle.stored.proofs.quad_of.Lts as lts
 use Rattle.stored.proofs.prefix_quad.Reads as prefix-quad-reads
 
-enum-known-piece : tie.Need-enum-known-piece
-enum-known-piece c = search needs
-
-cast-prefix-quad : tie.Need-cast-prefix-quad
-cast-prefix-quad c = search needs
-
-prefix-quad-requires : tie.Need-prefix-quad-requires
-prefix-quad-requires c κs = search needs
-
-enum-known-piece-2 : tie.Need-enum-known-piece-2
-enum-known-piece-2 c = search needs
-
-cast-t9 : tie.Need-cast-t9
-cast-t9 c = search needs
-
-enum-told : tie.Need-enum-told
-enum-told c = search needs
-
 returns : tie.Need-returns
 returns c = c .prefix-quad .ensures ∙ sym (ap quadOf (c .before .before .piece .given .1))
 
@@ -39,12 +21,12 @@ pub quad-of-spec : {M : Type 1} → statement M
 quad-of-spec =
     tie.close
     (tie.spec
-    enum-known-piece
-    cast-prefix-quad
-    prefix-quad-requires
-    enum-known-piece-2
-    cast-t9
-    enum-told
+    (λ c. search needs)
+    (λ c. search needs)
+    (λ c κs. search needs)
+    (λ c. search needs)
+    (λ c. search needs)
+    (λ c. search needs)
     returns
     returns-2
     returns-3)

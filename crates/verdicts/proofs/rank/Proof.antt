@@ -1,21 +1,15 @@
 -- `verdicts::rank` meets its contract: the tests in turn.
-use mathlib.Core.Path.{_≡_, sym, _∙_}
-use mathlib.Core.Bool.{true}
-use native.Mathlib.Omega.{arith}
+use mathlib.Core.Path.{_≡_, sym, ap₂, _∙_}
+use mathlib.Core.Bool.{true, false}
 use borrow.Author.Tests.{not-true, not-false, eq-eqb, ne-eqb}
+use lib.Dec.{eqb}
+use Rattle.stored.specs.Stored.{familyAt}
 use Rattle.ranking.specs.Ranks.{Rankable}
 use Rattle.verdicts.specs.Verdicts.{wellFormed, rankVerdict}
-use Rattle.verdicts.proofs.Formed.{rankable}
+use Rattle.verdicts.proofs.WellFormed.{rankable}
 use borrow.Author.Needs.{needs}
 use Rattle.verdicts.proofs.rank.Statement.{statement}
 use Rattle.verdicts.proofs.rank.Tie as tie
-use Rattle.verdicts.proofs.rank.Reads as reads
-use Rattle.verdicts.proofs.rank.Lts as lts
-use Rattle.ranking.proofs.compare_rules.Reads as compare-rules-reads
-use Rattle.verdicts.proofs.well_formed.Reads as well-formed-reads
-
-well-formed-requires : tie.Need-well-formed-requires
-well-formed-requires c κs = search needs
 
 returns : tie.Need-returns
 unfolding rankVerdict
@@ -38,24 +32,24 @@ ready2 c =
     let g = c .before .before .before .before .before .before .before .before .before .before .args in
     rankable (g .words2 .now) (g .values2 .now) (g .octets2 .now) 0 (formed2 c)
 
-well-formed-requires-2 : tie.Need-well-formed-requires-2
-well-formed-requires-2 c κs = search needs
-
 returns-2 : tie.Need-returns-2
 unfolding rankVerdict
 returns-2 c = rw (formed (c .before .before), sym (c .before .well-formed2 .ensures) ∙ not-true _ (c .if2 .taken))
 
-shared-slice-read-if3 : tie.Need-shared-slice-read-if3
-shared-slice-read-if3 c = let r = ready (c .before) in omega (arith, r .whole)
+family-at-requires : tie.Need-family-at-requires
+family-at-requires c κs = ready c .whole
 
-shared-slice-read-if3-2 : tie.Need-shared-slice-read-if3-2
-shared-slice-read-if3-2 c = let r = ready2 (c .before .before) in omega (arith, r .whole)
+family-at-requires-2 : tie.Need-family-at-requires-2
+family-at-requires-2 c κs = ready2 (c .before) .whole
 
 returns-3 : tie.Need-returns-3
 unfolding rankVerdict
 returns-3 c =
-    let d = c .before .before .before in
-    rw (formed (d .before .before), formed2 d, ne-eqb _ _ (c .if3 .taken))
+    let o = c .before in
+    let d = o .before .before in
+    let g = d .before .before .before .before .before .before .before .before .before .before .args in
+    let other : eqb (familyAt (g .words .now) 0) (familyAt (g .words2 .now) 0) ≡ false = ap₂ eqb (sym (o .before .family-at .ensures)) (sym (o .family-at2 .ensures)) ∙ ne-eqb _ _ (c .if3 .taken) in
+    rw (formed (d .before .before), formed2 d, other)
 
 compare-rules-requires : tie.Need-compare-rules-requires
 compare-rules-requires c κs = let d = c .before .before .before in (ready d, ready2 d)
@@ -63,19 +57,22 @@ compare-rules-requires c κs = let d = c .before .before .before in (ready d, re
 returns-4 : tie.Need-returns-4
 unfolding rankVerdict
 returns-4 c =
-    let d = c .before .before .before .before in
-    rw (formed (d .before .before), formed2 d, eq-eqb _ _ (c .before .if3 .left), c .compare-rules .ensures)
+    let o = c .before .before in
+    let d = o .before .before in
+    let g = d .before .before .before .before .before .before .before .before .before .before .args in
+    let same : eqb (familyAt (g .words .now) 0) (familyAt (g .words2 .now) 0) ≡ true = ap₂ eqb (sym (o .before .family-at .ensures)) (sym (o .family-at2 .ensures)) ∙ eq-eqb _ _ (c .before .if3 .left) in
+    rw (formed (d .before .before), formed2 d, same, c .compare-rules .ensures)
 
 pub rank-spec : {M : Type 1} → statement M
 rank-spec =
     tie.close
     (tie.spec
-    well-formed-requires
+    (λ c κs. search needs)
     returns
-    well-formed-requires-2
+    (λ c κs. search needs)
     returns-2
-    shared-slice-read-if3
-    shared-slice-read-if3-2
+    family-at-requires
+    family-at-requires-2
     returns-3
     compare-rules-requires
     returns-4)

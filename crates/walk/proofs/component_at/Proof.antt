@@ -18,32 +18,14 @@ use Rattle.prefixes.proofs.extent_at.Reads as extent-at-reads
 returns : tie.Need-returns
 returns c = λ start. sym (ap seen (found-missing _ _ _ _ start (c .if1 .taken)))
 
-shared-slice-read-tag : tie.Need-shared-slice-read-tag
-shared-slice-read-tag c = search needs
-
 returns-2 : tie.Need-returns-2
 returns-2 c = λ start. sym (ap seen (found-order _ _ _ _ start (c .before .before .if1 .left) (omega (arith, c .if2 .taken))))
-
-last-type-requires : tie.Need-last-type-requires
-last-type-requires c κs = search needs
 
 returns-3 : tie.Need-returns-3
 returns-3 c =
     λ start.
     let k = c .before .before in
     sym (ap seen (found-type _ _ _ _ start (k .before .before .if1 .left) (k .if2 .left) (omega (arith, c .before .last-type .ensures, c .if3 .taken))))
-
-add-t14 : tie.Need-add-t14
-add-t14 c = search needs
-
-extent-at-requires : tie.Need-extent-at-requires
-extent-at-requires c κs = search needs
-
-enum-known-extent : tie.Need-enum-known-extent
-enum-known-extent c = search needs
-
-enum-known-fault : tie.Need-enum-known-fault
-enum-known-fault c = search needs
 
 returns-4 : tie.Need-returns-4
 returns-4 c =
@@ -62,15 +44,6 @@ returns-5 c =
     let e = a .before .before in
     let k = e .before .before in
     prefix-seen _ _ _ _ start (k .before .before .if1 .left) (k .if2 .left) (omega (arith, e .before .last-type .ensures, e .if3 .left)) (a .before .if4 .taken) (sym (ap toldExtent (x .fault .given .1)) ∙ a .extent-at .ensures)
-
-measure-requires : tie.Need-measure-requires
-measure-requires c κs = search needs
-
-enum-known-count : tie.Need-enum-known-count
-enum-known-count c = search needs
-
-enum-known-fault-2 : tie.Need-enum-known-fault-2
-enum-known-fault-2 c = search needs
 
 returns-6 : tie.Need-returns-6
 returns-6 c =
@@ -93,18 +66,18 @@ component-at-spec =
     tie.close
     (tie.spec
     returns
-    shared-slice-read-tag
+    (λ c. search needs)
     returns-2
-    last-type-requires
+    (λ c κs. search needs)
     returns-3
-    add-t14
-    extent-at-requires
-    enum-known-extent
-    enum-known-fault
+    (λ c. search needs)
+    (λ c κs. search needs)
+    (λ c. search needs)
+    (λ c. search needs)
     returns-4
     returns-5
-    measure-requires
-    enum-known-count
-    enum-known-fault-2
+    (λ c κs. search needs)
+    (λ c. search needs)
+    (λ c. search needs)
     returns-6
     returns-7)

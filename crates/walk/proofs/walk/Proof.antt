@@ -25,12 +25,6 @@ loop-holds c = walking-first _ _ _
 returns : tie.Need-returns Inv-loop μ-loop
 returns c = walking-end (c .before .loop .inv) (c .if1 .taken)
 
-component-at-requires : tie.Need-component-at-requires Inv-loop μ-loop
-component-at-requires c κs = search needs
-
-enum-known-more : tie.Need-enum-known-more Inv-loop μ-loop
-enum-known-more c = search needs
-
 -- what the turn saw of the component at its place
 saw : (c : tie.After-known-told Inv-loop μ-loop)
     → accepts (sight (c .before .more .given .0 .0) (c .before .more .given .0 .1 .0 .at))
@@ -58,9 +52,6 @@ loop-again c =
     let k = c .before in
     walking-more (k .before .before .before .before .before .loop .inv) (k .before .before .before .before .if1 .left) (saw k)
 
-enum-known-fault : tie.Need-enum-known-fault Inv-loop μ-loop
-enum-known-fault c = search needs
-
 returns-2 : tie.Need-returns-2 Inv-loop μ-loop
 returns-2 c =
     let a = c .before .before .before in
@@ -74,11 +65,11 @@ walk-spec =
     μ-loop
     loop-holds
     returns
-    component-at-requires
-    enum-known-more
+    (λ c κs. search needs)
+    (λ c. search needs)
     shared-slice-read-previous
     add-operators
     loop-less
     loop-again
-    enum-known-fault
+    (λ c. search needs)
     returns-2)

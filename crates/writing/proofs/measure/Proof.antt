@@ -1,6 +1,6 @@
 -- `writing::measure` meets its contract: the frame is tested first, the components by the walk.
-use Prim.Native.Nat.{ℕ, _+_, _*_, _≤_}
-use mathlib.Core.Path.{_≡_, sym, ap, ap₂, _∙_}
+use Prim.Native.Nat.{ℕ}
+use mathlib.Core.Path.{sym, ap, ap₂, _∙_}
 use native.Mathlib.Omega.{arith}
 use borrow.Author.Tests.{not-true, not-false}
 use Rattle.stored.specs.Stored.{piecesFrom}
@@ -23,20 +23,11 @@ returns c =
     let a = c .before .before .before .before .args in
     sym (ap counted (few-words (a .writing) (a .words .now) (a .values .now) (a .octets .now) (c .if1 .taken)))
 
-is-framed-requires : tie.Need-is-framed-requires
-is-framed-requires c κs = search needs
-
 returns-2 : tie.Need-returns-2
 returns-2 c =
     let e = c .before .before in
     let a = e .before .before .before .before .args in
     sym (ap counted (no-frame (a .writing) (a .words .now) (a .values .now) (a .octets .now) (e .if1 .left) (sym (c .before .is-framed .ensures) ∙ not-true _ (c .if2 .taken))))
-
-count-at-requires : tie.Need-count-at-requires
-count-at-requires c κs = search needs
-
-first-at-requires : tie.Need-first-at-requires
-first-at-requires c κs = search needs
 
 measure-body-requires : tie.Need-measure-body-requires
 measure-body-requires c κs =
@@ -61,9 +52,9 @@ measure-spec =
     tie.close
     (tie.spec
     returns
-    is-framed-requires
+    (λ c κs. search needs)
     returns-2
-    count-at-requires
-    first-at-requires
+    (λ c κs. search needs)
+    (λ c κs. search needs)
     measure-body-requires
     returns-3)

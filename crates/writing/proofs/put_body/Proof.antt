@@ -1,6 +1,5 @@
 -- `writing::put_body` meets its contract. `Turns.antt` has the invariant, `Stood`, and what a turn does to it.
-use Prim.Native.Nat.{ℕ, _+_, _-_, _*_}
-use mathlib.Core.Path.{_≡_, refl, sym, ap, _∙_}
+use Prim.Native.Nat.{_-_}
 use native.Mathlib.Omega.{arith}
 use Rattle.measuring.specs.Bodies.{lent}
 use Rattle.writing.proofs.Turns.{Stood, stood-first, stood-end, stood-more, next-taken, next-room}
@@ -36,12 +35,6 @@ put-piece-requires c κs =
     let s = o .before .before .before .before .before in
     (next-taken _ _ _ _ _ _ (o .loop .inv) (omega arith) (b .piece-at .ensures), next-room _ _ _ _ _ _ (o .loop .inv) (omega arith) (b .piece-at .ensures) (s .pre .1 .1))
 
-add-i : tie.Need-add-i Inv-loop μ-loop
-add-i c = search needs
-
-loop-less : tie.Need-loop-less Inv-loop μ-loop
-loop-less c = search needs
-
 loop-again : tie.Need-loop-again Inv-loop μ-loop
 loop-again c =
     let h = c .before .before in
@@ -65,8 +58,8 @@ put-body-spec =
     mul-piece-at
     piece-at-requires
     put-piece-requires
-    add-i
-    loop-less
+    (λ c. search needs)
+    (λ c. search needs)
     loop-again
     same-length
     returns)

@@ -1,7 +1,5 @@
 -- `writing::put_high` meets its contract, by how many octets there are.
-use Prim.Native.Nat.{ℕ, _≤_}
-use mathlib.Core.Path.{_≡_, sym, _∙_}
-use native.Mathlib.Omega.{arith}
+use mathlib.Core.Path.{_≡_, sym}
 use Rattle.writing.proofs.Stores.{four, high-none, high-one, high-three, high-four}
 use borrow.Author.Needs.{needs}
 use Rattle.writing.proofs.put_high.Statement.{statement}
@@ -16,29 +14,8 @@ is-four c =
     let m = c .match .rest in
     four (c .before .before .args .k) (c .before .before .pre .0) (m .0 .0 .0 .1) (m .0 .0 .1) (m .0 .1) (m .1)
 
-write-value-requires : tie.Need-write-value-requires
-write-value-requires c κs = search needs
-
-write-value-requires-2 : tie.Need-write-value-requires-2
-write-value-requires-2 c κs = search needs
-
-write-value-requires-3 : tie.Need-write-value-requires-3
-write-value-requires-3 c κs = search needs
-
-add-write-value : tie.Need-add-write-value
-add-write-value c = search needs
-
-write-value-requires-4 : tie.Need-write-value-requires-4
-write-value-requires-4 c κs = search needs
-
-write-value-requires-5 : tie.Need-write-value-requires-5
-write-value-requires-5 c κs = search needs
-
 returns : tie.Need-returns
 returns c = let a = c .before .before .args in high-none (a .out .now) (a .at) (a .k) (a .v) (c .match .keys1)
-
-same-length : tie.Need-same-length
-same-length c = search needs
 
 returns-2 : tie.Need-returns-2
 returns-2 c =
@@ -46,26 +23,17 @@ returns-2 c =
     let a = m .before .before .args in
     high-one (a .out .now) (a .at) (a .k) 1 (a .v) (sym (m .match .keys2)) (c .before .before .write-value .ensures)
 
-same-length-2 : tie.Need-same-length-2
-same-length-2 c = search needs
-
 returns-3 : tie.Need-returns-3
 returns-3 c =
     let m = c .before .before .before .before in
     let a = m .before .before .args in
     high-one (a .out .now) (a .at) (a .k) 2 (a .v) (sym (m .match .keys3)) (c .before .before .write-value2 .ensures)
 
-same-length-3 : tie.Need-same-length-3
-same-length-3 c = search needs
-
 returns-4 : tie.Need-returns-4
 returns-4 c =
     let m = c .before .before .before .before .before .before .before .before in
     let a = m .before .before .args in
     high-one (a .out .now) (a .at) (a .k) 3 (a .v) (sym (m .match .keys4)) (high-three (a .out .now) (a .at) (a .v) (c .before .before .before .before .before .before .write-value3 .ensures) (c .before .before .write-value4 .ensures))
-
-same-length-4 : tie.Need-same-length-4
-same-length-4 c = search needs
 
 returns-5 : tie.Need-returns-5
 returns-5 c =
@@ -77,18 +45,18 @@ pub put-high-spec : {M : Type 1} → statement M
 put-high-spec =
     tie.close
     (tie.spec
-    write-value-requires
-    write-value-requires-2
-    write-value-requires-3
-    add-write-value
-    write-value-requires-4
-    write-value-requires-5
+    (λ c κs. search needs)
+    (λ c κs. search needs)
+    (λ c κs. search needs)
+    (λ c. search needs)
+    (λ c κs. search needs)
+    (λ c κs. search needs)
     returns
-    same-length
+    (λ c. search needs)
     returns-2
-    same-length-2
+    (λ c. search needs)
     returns-3
-    same-length-3
+    (λ c. search needs)
     returns-4
-    same-length-4
+    (λ c. search needs)
     returns-5)

@@ -1,6 +1,6 @@
 -- `writing::put_ipv4` meets its contract: the length, then the octets after it.
 use Prim.Native.Nat.{ℕ, _+_, _-_, _*_, _/_, _^_}
-use mathlib.Core.Path.{_≡_, sym, ap, _∙_}
+use mathlib.Core.Path.{ap, _∙_}
 use native.Mathlib.Omega.{arith}
 use lib.ListN.{length, set, length-set}
 use lib.Seq.{sets, length-sets}
@@ -14,15 +14,6 @@ use Rattle.writing.proofs.put_ipv4.Reads as reads
 use Rattle.writing.proofs.put_ipv4.Lts as lts
 use Rattle.writing.proofs.put_high.Reads as put-high-reads
 use Rattle.prefixes.proofs.octets_of.Reads as octets-of-reads
-
-slice-write-out : tie.Need-slice-write-out
-slice-write-out c = search needs
-
-add-from : tie.Need-add-from
-add-from c = search needs
-
-octets-of-requires : tie.Need-octets-of-requires
-octets-of-requires c κs = search needs
 
 put-high-requires : tie.Need-put-high-requires
 put-high-requires c κs =
@@ -45,4 +36,9 @@ returns c =
 pub put-ipv4-spec : {M : Type 1} → statement M
 put-ipv4-spec =
     tie.close
-    (tie.spec slice-write-out add-from octets-of-requires put-high-requires same-length returns)
+    (tie.spec (λ c. search needs)
+    (λ c. search needs)
+    (λ c κs. search needs)
+    put-high-requires
+    same-length
+    returns)

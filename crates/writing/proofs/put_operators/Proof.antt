@@ -1,8 +1,6 @@
 -- `writing::put_operators` meets its contract: a list that is not empty lies within the lent lists.
-use Prim.Native.Nat.{ℕ, _+_}
-use mathlib.Core.Path.{_≡_, refl, sym, ap, _∙_}
+use mathlib.Core.Path.{refl, ap, _∙_}
 use native.Mathlib.Omega.{arith}
-use lib.ListN.{length}
 use lib.Seq.{sets}
 use Rattle.operators.specs.declared.Kind.{Kind}
 use Rattle.operators.specs.Ops.{opsIn, listOctets}
@@ -21,9 +19,6 @@ returns : tie.Need-returns
 unfolding sizeIn opsIn listOctets
 returns c = rw (c .if1 .taken) (omega arith, refl)
 
-kind-of-requires : tie.Need-kind-of-requires
-kind-of-requires c κs = search needs
-
 add-put-list : tie.Need-add-put-list
 add-put-list c =
     let e = c .before in
@@ -39,9 +34,6 @@ put-list-requires c κs =
     let b = inside-both (lent (a .values .now) (a .octets .now) (a .first)) (a .start) (a .count) (e .if1 .left) (s .pre .0) in
     ((b .0, b .1), s .pre .1)
 
-same-length : tie.Need-same-length
-same-length c = search needs
-
 returns-2 : tie.Need-returns-2
 returns-2 c =
     let h = c .before .before in
@@ -51,4 +43,9 @@ returns-2 c =
 pub put-operators-spec : {M : Type 1} → statement M
 put-operators-spec =
     tie.close
-    (tie.spec returns kind-of-requires add-put-list put-list-requires same-length returns-2)
+    (tie.spec returns
+    (λ c κs. search needs)
+    add-put-list
+    put-list-requires
+    (λ c. search needs)
+    returns-2)

@@ -1,5 +1,5 @@
 -- `writing::put_other` meets its contract, by the writing.
-use mathlib.Core.Path.{_≡_, sym, ap, _∙_}
+use mathlib.Core.Path.{sym, ap, _∙_}
 use native.Mathlib.Omega.{arith}
 use lib.ListN.{length}
 use lib.Seq.{sets}
@@ -15,9 +15,6 @@ use Rattle.writing.proofs.put_other.Lts as lts
 use Rattle.prefixwriting.proofs.put_plain.Reads as put-plain-reads
 use Rattle.prefixwriting.proofs.put_standard.Reads as put-standard-reads
 
-enum-told : tie.Need-enum-told
-enum-told c = search needs
-
 put-plain-requires : tie.Need-put-plain-requires
 put-plain-requires c κs =
     let e = c .before in
@@ -26,9 +23,6 @@ put-plain-requires c κs =
     let t = sym (ap (λ (w : Reading). prefixTaken w (a .prefix)) (e .enum-told .given .1)) ∙ s .pre .0 in
     let n = sym (ap (λ (w : Reading). length (prefixOctets w (a .prefix))) (e .enum-told .given .1) ∙ length-plain (a .prefix)) in
     (t, omega (arith, n, s .pre .1))
-
-enum-told-2 : tie.Need-enum-told-2
-enum-told-2 c = search needs
 
 put-standard-requires : tie.Need-put-standard-requires
 put-standard-requires c κs =
@@ -39,9 +33,6 @@ put-standard-requires c κs =
     let n = sym (ap (λ (w : Reading). length (prefixOctets w (a .prefix))) (e .enum-told2 .given .1) ∙ length-standard (a .prefix)) in
     (valid-ranged 4 (a .prefix) t, omega (arith, n, s .pre .1))
 
-enum-told-3 : tie.Need-enum-told-3
-enum-told-3 c = search needs
-
 put-standard-requires-2 : tie.Need-put-standard-requires-2
 put-standard-requires-2 c κs =
     let e = c .before in
@@ -51,9 +42,6 @@ put-standard-requires-2 c κs =
     let n = sym (ap (λ (w : Reading). length (prefixOctets w (a .prefix))) (e .enum-told3 .given .1) ∙ length-standard (a .prefix)) in
     (valid-ranged 6 (a .prefix) t, omega (arith, n, s .pre .1))
 
-same-length : tie.Need-same-length
-same-length c = search needs
-
 returns : tie.Need-returns
 returns c =
     let h = c .before .before in
@@ -61,18 +49,12 @@ returns c =
     let a = e .before .before .before .args in
     h .put-plain .ensures ∙ sym (ap (λ (w : Reading). sets (a .out .now) (a .at) (prefixOctets w (a .prefix))) (e .enum-told .given .1))
 
-same-length-2 : tie.Need-same-length-2
-same-length-2 c = search needs
-
 returns-2 : tie.Need-returns-2
 returns-2 c =
     let h = c .before .before in
     let e = h .before .before in
     let a = e .before .before .before .args in
     h .put-standard .ensures ∙ sym (ap (λ (w : Reading). sets (a .out .now) (a .at) (prefixOctets w (a .prefix))) (e .enum-told2 .given .1))
-
-same-length-3 : tie.Need-same-length-3
-same-length-3 c = search needs
 
 returns-3 : tie.Need-returns-3
 returns-3 c =
@@ -85,15 +67,15 @@ pub put-other-spec : {M : Type 1} → statement M
 put-other-spec =
     tie.close
     (tie.spec
-    enum-told
+    (λ c. search needs)
     put-plain-requires
-    enum-told-2
+    (λ c. search needs)
     put-standard-requires
-    enum-told-3
+    (λ c. search needs)
     put-standard-requires-2
-    same-length
+    (λ c. search needs)
     returns
-    same-length-2
+    (λ c. search needs)
     returns-2
-    same-length-3
+    (λ c. search needs)
     returns-3)

@@ -1,10 +1,7 @@
 -- `writing::put_piece` meets its contract: the type, then what follows it.
-use Prim.Native.Nat.{ℕ, _+_}
-use mathlib.Core.Path.{_≡_, refl, sym, ap, _∙_}
 use native.Mathlib.Omega.{arith}
-use lib.ListN.{length, set, length-set}
-use lib.Seq.{sets, length-sets}
-use Rattle.measuring.specs.Bodies.{lent, prefixOctets, pieceOctets}
+use lib.ListN.{length-set}
+use Rattle.measuring.specs.Bodies.{lent, pieceOctets}
 use Rattle.writing.proofs.Stores.{prefix-taken, prefix-long, prefix-put, list-inside, list-long, list-put, never-taken, kept}
 use borrow.Author.Needs.{needs}
 use Rattle.writing.proofs.put_piece.Statement.{statement}
@@ -15,9 +12,6 @@ use Rattle.writing.proofs.put_operators.Reads as put-operators-reads
 use Rattle.writing.proofs.put_prefix.Reads as put-prefix-reads
 use Rattle.measuring.proofs.prefix_size.Reads as prefix-size-reads
 
-enum-known-piece : tie.Need-enum-known-piece
-enum-known-piece c = search needs
-
 slice-write-out : tie.Need-slice-write-out
 slice-write-out c =
     let k = c .before in
@@ -26,9 +20,6 @@ slice-write-out c =
     let l = lent (a .values .now) (a .octets .now) (a .first) in
     let g = k .piece .given in
     omega (arith, s .pre .1, prefix-long (a .writing) l (a .piece) (g .0 .0) (g .0 .1 .0) (g .1))
-
-add-from : tie.Need-add-from
-add-from c = search needs
 
 put-prefix-requires : tie.Need-put-prefix-requires
 put-prefix-requires c κs =
@@ -40,9 +31,6 @@ put-prefix-requires c κs =
     let n = prefix-long (a .writing) l (a .piece) (g .0 .0) (g .0 .1 .0) (g .1) in
     (prefix-taken (a .writing) l (a .piece) (g .0 .0) (g .0 .1 .0) (g .1) (s .pre .0), simp length-set (omega (arith, s .pre .1, n)))
 
-prefix-size-requires : tie.Need-prefix-size-requires
-prefix-size-requires c κs = search needs
-
 add-result : tie.Need-add-result
 add-result c =
     let k = c .before .before .before .before .before .before in
@@ -51,9 +39,6 @@ add-result c =
     let l = lent (a .values .now) (a .octets .now) (a .first) in
     let g = k .piece .given in
     omega (arith, s .pre .1, c .prefix-size .ensures, prefix-long (a .writing) l (a .piece) (g .0 .0) (g .0 .1 .0) (g .1))
-
-enum-known-piece-2 : tie.Need-enum-known-piece-2
-enum-known-piece-2 c = search needs
 
 slice-write-out-2 : tie.Need-slice-write-out-2
 slice-write-out-2 c =
@@ -64,9 +49,6 @@ slice-write-out-2 c =
     let g = k .piece2 .given in
     omega (arith, s .pre .1, list-long (a .writing) l (a .piece) (g .0 .0) (g .0 .1 .0) (g .0 .1 .1 .0) (g .1))
 
-add-from-2 : tie.Need-add-from-2
-add-from-2 c = search needs
-
 put-operators-requires : tie.Need-put-operators-requires
 put-operators-requires c κs =
     let k = c .before .before in
@@ -76,9 +58,6 @@ put-operators-requires c κs =
     let g = k .piece2 .given in
     let n = list-long (a .writing) l (a .piece) (g .0 .0) (g .0 .1 .0) (g .0 .1 .1 .0) (g .1) in
     (list-inside (a .writing) l (a .piece) (g .0 .0) (g .0 .1 .0) (g .0 .1 .1 .0) (g .1) (s .pre .0), simp length-set (omega (arith, s .pre .1, n)))
-
-enum-told : tie.Need-enum-told
-enum-told c = search needs
 
 same-length : tie.Need-same-length
 same-length c =
@@ -131,17 +110,17 @@ pub put-piece-spec : {M : Type 1} → statement M
 put-piece-spec =
     tie.close
     (tie.spec
-    enum-known-piece
+    (λ c. search needs)
     slice-write-out
-    add-from
+    (λ c. search needs)
     put-prefix-requires
-    prefix-size-requires
+    (λ c κs. search needs)
     add-result
-    enum-known-piece-2
+    (λ c. search needs)
     slice-write-out-2
-    add-from-2
+    (λ c. search needs)
     put-operators-requires
-    enum-told
+    (λ c. search needs)
     same-length
     returns
     same-length-2

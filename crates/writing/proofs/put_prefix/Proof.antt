@@ -1,6 +1,5 @@
 -- `writing::put_prefix` meets its contract: an IPv4 prefix is written alike by both writings.
-use Prim.Native.Nat.{ℕ, _+_}
-use mathlib.Core.Path.{_≡_, sym, ap, _∙_}
+use mathlib.Core.Path.{sym, ap, _∙_}
 use native.Mathlib.Omega.{arith}
 use lib.ListN.{length}
 use lib.Seq.{sets}
@@ -15,9 +14,6 @@ use Rattle.writing.proofs.put_prefix.Lts as lts
 use Rattle.writing.proofs.put_ipv4.Reads as put-ipv4-reads
 use Rattle.writing.proofs.put_other.Reads as put-other-reads
 
-enum-known-prefix : tie.Need-enum-known-prefix
-enum-known-prefix c = search needs
-
 put-ipv4-requires : tie.Need-put-ipv4-requires
 put-ipv4-requires c κs =
     let k = c .before .before in
@@ -28,12 +24,6 @@ put-ipv4-requires c κs =
     let n = ap (λ q. length (prefixOctets (a .writing) q)) (g .1) ∙ length-ipv4 (a .writing) (g .0 .0) (g .0 .1 .0) in
     (t, omega (arith, n, s .pre .1))
 
-put-other-requires : tie.Need-put-other-requires
-put-other-requires c κs = search needs
-
-same-length : tie.Need-same-length
-same-length c = search needs
-
 returns : tie.Need-returns
 returns c =
     let h = c .before .before in
@@ -42,20 +32,14 @@ returns c =
     let g = k .prefix .given in
     h .put-ipv4 .ensures ∙ ap (λ xs. sets (a .out .now) (a .at) xs) (sym (octets-ipv4 (a .writing) (g .0 .0) (g .0 .1 .0))) ∙ sym (ap (λ q. sets (a .out .now) (a .at) (prefixOctets (a .writing) q)) (g .1))
 
-same-length-2 : tie.Need-same-length-2
-same-length-2 c = search needs
-
-returns-2 : tie.Need-returns-2
-returns-2 c = search needs
-
 pub put-prefix-spec : {M : Type 1} → statement M
 put-prefix-spec =
     tie.close
     (tie.spec
-    enum-known-prefix
+    (λ c. search needs)
     put-ipv4-requires
-    put-other-requires
-    same-length
+    (λ c κs. search needs)
+    (λ c. search needs)
     returns
-    same-length-2
-    returns-2)
+    (λ c. search needs)
+    (λ c. search needs))

@@ -1,5 +1,5 @@
 -- `writing::write` meets its contract, by the reading that the family names.
-use mathlib.Core.Path.{_≡_, sym, ap, _∙_}
+use mathlib.Core.Path.{sym, ap, _∙_}
 use lib.ListN.{length}
 use Rattle.choices.specs.Choices.{toldStandard}
 use Rattle.writing.specs.Writings.{bodyIn, inRoom, writtenIn}
@@ -11,21 +11,6 @@ use Rattle.writing.proofs.write.Reads as reads
 use Rattle.writing.proofs.write.Lts as lts
 use Rattle.choices.proofs.reading_of.Reads as reading-of-reads
 use Rattle.writing.proofs.write_from.Reads as write-from-reads
-
-reading-of-requires : tie.Need-reading-of-requires
-reading-of-requires c κs = search needs
-
-enum-known-standard : tie.Need-enum-known-standard
-enum-known-standard c = search needs
-
-write-from-requires : tie.Need-write-from-requires
-write-from-requires c κs = search needs
-
-enum-known-standard-2 : tie.Need-enum-known-standard-2
-enum-known-standard-2 c = search needs
-
-same-length : tie.Need-same-length
-same-length c = search needs
 
 returns : tie.Need-returns
 returns c =
@@ -47,10 +32,10 @@ pub write-spec : {M : Type 1} → statement M
 write-spec =
     tie.close
     (tie.spec
-    reading-of-requires
-    enum-known-standard
-    write-from-requires
-    enum-known-standard-2
-    same-length
+    (λ c κs. search needs)
+    (λ c. search needs)
+    (λ c κs. search needs)
+    (λ c. search needs)
+    (λ c. search needs)
     returns
     returns-2)

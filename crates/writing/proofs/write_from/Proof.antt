@@ -1,5 +1,5 @@
 -- `writing::write_from` meets its contract: measure, room, put.
-use mathlib.Core.Path.{_≡_, sym, ap, _∙_}
+use mathlib.Core.Path.{sym, ap, _∙_}
 use native.Mathlib.Omega.{arith}
 use lib.ListN.{length}
 use Rattle.measuring.specs.Grounds.{toldMeasured}
@@ -12,7 +12,7 @@ use Rattle.writing.proofs.write_from.Reads as reads
 use Rattle.writing.proofs.write_from.Lts as lts
 use Rattle.writing.proofs.measure.Reads as measure-reads
 use Rattle.writing.proofs.put.Reads as put-reads
-use Rattle.writing.proofs.whole.Reads as whole-reads
+use Rattle.writing.proofs.nlri_size.Reads as nlri-size-reads
 
 measure-requires : tie.Need-measure-requires
 measure-requires c κs = search needs
@@ -20,8 +20,8 @@ measure-requires c κs = search needs
 enum-known-m : tie.Need-enum-known-m
 enum-known-m c = search needs
 
-whole-requires : tie.Need-whole-requires
-whole-requires c κs =
+nlri-size-requires : tie.Need-nlri-size-requires
+nlri-size-requires c κs =
     let k = c .before in
     let g = k .before .before in
     let a = g .before .before .before .before .before .args in
@@ -33,7 +33,7 @@ returns c =
     let k = c .before .before .before in
     let g = k .before .before in
     let a = g .before .before .before .before .before .args in
-    let h = no-room (bodyFrom (a .writing) (a .words .now) (a .values .now) (a .octets .now)) (a .out .now) (k .m .given .0 .0) (sym (ap toldMeasured (k .m .given .1)) ∙ g .measure .ensures) _ (c .before .whole .ensures) (c .if1 .taken) in
+    let h = no-room (bodyFrom (a .writing) (a .words .now) (a .values .now) (a .octets .now)) (a .out .now) (k .m .given .0 .0) (sym (ap toldMeasured (k .m .given .1)) ∙ g .measure .ensures) _ (c .before .nlri-size .ensures) (c .if1 .taken) in
     (h .0, h .1)
 
 put-requires : tie.Need-put-requires
@@ -41,7 +41,7 @@ put-requires c κs =
     let w = c .before .before in
     let k = w .before .before in
     let g = k .before .before in
-    (sym (sym (ap toldMeasured (k .m .given .1)) ∙ g .measure .ensures), omega (arith, w .whole .ensures, c .before .if1 .left))
+    (sym (sym (ap toldMeasured (k .m .given .1)) ∙ g .measure .ensures), omega (arith, w .nlri-size .ensures, c .before .if1 .left))
 
 enum-known-m-2 : tie.Need-enum-known-m-2
 enum-known-m-2 c = search needs
@@ -58,7 +58,7 @@ returns-2 c =
     let k = w .before .before in
     let g = k .before .before in
     let a = g .before .before .before .before .before .args in
-    let h = in-room (bodyFrom (a .writing) (a .words .now) (a .values .now) (a .octets .now)) (a .out .now) (k .m .given .0 .0) (sym (ap toldMeasured (k .m .given .1)) ∙ g .measure .ensures) _ (w .whole .ensures) (i .if1 .left) (p .put .ensures) in
+    let h = in-room (bodyFrom (a .writing) (a .words .now) (a .values .now) (a .octets .now)) (a .out .now) (k .m .given .0 .0) (sym (ap toldMeasured (k .m .given .1)) ∙ g .measure .ensures) _ (w .nlri-size .ensures) (i .if1 .left) (p .put .ensures) in
     (h .0, h .1)
 
 returns-3 : tie.Need-returns-3
@@ -75,7 +75,7 @@ write-from-spec =
     (tie.spec
     measure-requires
     enum-known-m
-    whole-requires
+    nlri-size-requires
     returns
     put-requires
     enum-known-m-2

@@ -2,9 +2,9 @@
 
 use differential::compare::Comparison;
 use differential::decisions::{self, Ways};
-use differential::random::Random;
 use differential::stored::Stored;
-use differential::{edges, inputs, records, Form};
+use differential::{edges, records, Form};
+use inputs::Random;
 use std::process::ExitCode;
 use std::time::Instant;
 
@@ -25,7 +25,9 @@ struct Wanted {
 }
 
 fn main() -> ExitCode {
-    let arguments: Vec<String> = std::env::args().skip(1).collect();
+    // An argument that is no text is none that is known.
+    let known = |one: std::ffi::OsString| one.to_string_lossy().into_owned();
+    let arguments: Vec<String> = std::env::args_os().skip(1).map(known).collect();
     let wanted = match wanted(&arguments) {
         Some(wanted) => wanted,
         None => {

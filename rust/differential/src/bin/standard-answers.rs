@@ -1,8 +1,8 @@
 //! Writes `tests/standard-answers`: the requests of `differential::samples`, each with what the crate
 //! `standard` answers, a line for each: `REQUEST = ANSWER`.
 //!
-//!   rust/differential/run standard-answers            writes the list
-//!   rust/differential/run standard-answers --check    compares the list with a new one, writes nothing
+//!   rust/run standard-answers            writes the list
+//!   rust/run standard-answers --check    compares the list with a new one, writes nothing
 //!
 //! Exit: 0 done or equal, 1 differs or failed, 2 misused.
 
@@ -15,7 +15,9 @@ use std::{env, fs, io};
 const LIST: &str = "tests/standard-answers";
 
 fn main() -> ExitCode {
-    let arguments: Vec<String> = env::args().skip(1).collect();
+    // An argument that is no text is none that is known.
+    let known = |one: std::ffi::OsString| one.to_string_lossy().into_owned();
+    let arguments: Vec<String> = env::args_os().skip(1).map(known).collect();
     let arguments: Vec<&str> = arguments.iter().map(String::as_str).collect();
     let root = Path::new(env!("CARGO_MANIFEST_DIR")).join("../..");
     let file = root.join(LIST);

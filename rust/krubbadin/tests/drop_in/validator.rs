@@ -197,6 +197,48 @@ pub fn built() -> Vec<FlowSpecNlri> {
     rules
 }
 
+/// Rules whose body is too long in some way: many operators, many components, both, and widths that no octet names.
+pub fn too_long() -> Vec<FlowSpecNlri> {
+    let net = |text: &str| NetworkPrefix::new(text.parse().unwrap(), None);
+    let one = |value_length| NumericOperator {
+        value_length,
+        ..NumericOperator::equal_to(7)
+    };
+    let two = |value_length| BitmaskOperator {
+        value_length,
+        ..BitmaskOperator::exact_match(7)
+    };
+    let prefixes = vec![
+        FlowSpecComponent::DestinationPrefix(net("203.0.113.0/25")),
+        FlowSpecComponent::SourcePrefix(net("2001:db8::/33")),
+        FlowSpecComponent::DestinationIpv6Prefix { offset: 3, prefix: net("2001:db8::/47") },
+        FlowSpecComponent::SourceIpv6Prefix { offset: 9, prefix: net("203.0.113.0/24") },
+    ];
+    let mut rules = Vec::new();
+    for count in [2047, 2048, 2049, 4096, 70_000] {
+        let ports = FlowSpecComponent::Port(vec![one(1); count]);
+        let flags = FlowSpecComponent::TcpFlags(vec![two(8); count / 2]);
+        rules.push(FlowSpecNlri::new(vec![ports.clone(), flags.clone()]));
+        rules.push(FlowSpecNlri::new(vec![flags]));
+        let mut all = prefixes.clone();
+        all.push(ports.clone());
+        rules.push(FlowSpecNlri::new(all));
+        if count > 2047 {
+            rules.push(FlowSpecNlri::new(vec![ports]));
+        }
+    }
+    for width in [0, 3, 5, 7] {
+        let list = FlowSpecComponent::FlowLabel(vec![one(width); 4096]);
+        rules.push(FlowSpecNlri::new(vec![list]));
+    }
+    for count in [14, 100] {
+        let list = FlowSpecComponent::Fragment(vec![two(4); 60]);
+        rules.push(FlowSpecNlri::new(vec![list; count]));
+    }
+    rules.push(FlowSpecNlri::new(vec![prefixes; 250].concat()));
+    rules
+}
+
 /// The octets of records of any width.
 pub fn odd_widths() -> Vec<u8> {
     let of = |value_length| NumericOperator {

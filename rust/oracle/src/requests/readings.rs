@@ -3,6 +3,7 @@
 use super::sample::{good_rule, rule_of_length, Random};
 use crate::flowspec::nlri::encode_length;
 use crate::flowspec::{encode_flowspec_nlri, FlowSpecNlri};
+use crate::records;
 use crate::text;
 
 /// The cases of the scope document, in its order, and those it has in words.
@@ -140,7 +141,7 @@ fn operator_octets() -> Vec<Vec<u8>> {
     let mut bodies = Vec::new();
     for kind in [5, 12] {
         for octet in 0..=0xFF {
-            let value = ramp(usize::from(text::width(octet)));
+            let value = ramp(usize::from(records::width(octet)));
             let close: &[u8] = if octet < 0x80 { &[0x80, 0x2A] } else { &[] };
             bodies.push([&[kind, octet][..], &value, close].concat());
             if octet % 3 == 0 {
@@ -240,7 +241,9 @@ fn damaged(good: &[u8], random: &mut Random) -> Vec<u8> {
             0 => input[place] = random.octet(),
             1 => input[place] ^= 1 << random.below(8),
             2 => input.insert(place, random.octet()),
-            3 => drop(input.remove(place)),
+            3 => {
+                input.remove(place);
+            }
             4 => input.truncate(place),
             5 => input.push(random.octet()),
             _ => input[0] = place as u8,

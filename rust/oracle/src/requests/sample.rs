@@ -4,33 +4,31 @@
 use crate::flowspec::FlowSpecNlri;
 use crate::text;
 
-/// SplitMix64: the same numbers from the same seed, everywhere.
-pub struct Random(u64);
+/// The same numbers from the same seed, everywhere. What is drawn from them stays as it was when the
+/// lists were first stored, by remainders.
+pub struct Random(inputs::Random);
 
 impl Random {
     pub fn new(seed: u64) -> Self {
-        Random(seed)
+        Random(inputs::Random::new(seed))
     }
 
-    pub fn next(&mut self) -> u64 {
-        self.0 = self.0.wrapping_add(0x9E37_79B9_7F4A_7C15);
-        let mixed = (self.0 ^ self.0 >> 30).wrapping_mul(0xBF58_476D_1CE4_E5B9);
-        let mixed = (mixed ^ mixed >> 27).wrapping_mul(0x94D0_49BB_1331_11EB);
-        mixed ^ mixed >> 31
+    pub fn number(&mut self) -> u64 {
+        self.0.number()
     }
 
     /// A number below `bound`, which is small, so that the bias does not matter.
     pub fn below(&mut self, bound: usize) -> usize {
-        (self.next() % bound as u64) as usize
+        (self.number() % bound as u64) as usize
     }
 
     pub fn octet(&mut self) -> u8 {
-        self.next() as u8
+        self.0.octet()
     }
 
     /// A value of any magnitude: evenly drawn ones would nearly all need eight octets.
     fn value(&mut self) -> u64 {
-        self.next() >> self.below(64)
+        self.number() >> self.below(64)
     }
 }
 
@@ -116,10 +114,10 @@ fn offset_prefix(random: &mut Random) -> String {
 
 fn address(random: &mut Random) -> (u8, usize, String) {
     if random.below(2) == 0 {
-        let address = random.next() as u32;
+        let address = random.number() as u32;
         (4, random.below(33), format!("{address:08X}"))
     } else {
-        let (high, low) = (random.next(), random.next());
+        let (high, low) = (random.number(), random.number());
         (6, random.below(129), format!("{high:016X}{low:016X}"))
     }
 }

@@ -1,16 +1,10 @@
 //! Rules and packets from short texts.
 
 // Each test program has its own copy, and none uses all of it.
-#![allow(dead_code)]
+#![allow(dead_code, unused_imports)]
 
+pub use inputs::octets;
 use standard::{read, Address, Component, Content, Flow, Operator, Packet, Prefix, Rule};
-
-/// The octets that a text in hex stands for.
-pub fn octets(text: &str) -> Vec<u8> {
-    let pairs = text.split_whitespace();
-    let octets = pairs.map(|pair| u8::from_str_radix(pair, 16).expect("hex"));
-    octets.collect()
-}
 
 pub fn rule(components: &[Component]) -> Rule {
     Rule {

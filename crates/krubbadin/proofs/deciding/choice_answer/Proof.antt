@@ -11,24 +11,6 @@ use Rattle.krubbadin.proofs.deciding.choice_answer.Lts as lts
 use Rattle.krubbadin.proofs.deciding.given.Reads as given-reads
 use Rattle.krubbadin.proofs.refused.Reads as refused-reads
 
-enum-known-r : tie.Need-enum-known-r
-enum-known-r c = search needs
-
-given-requires : tie.Need-given-requires
-given-requires c κs = search needs
-
-enum-told : tie.Need-enum-told
-enum-told c = search needs
-
-given-requires-2 : tie.Need-given-requires-2
-given-requires-2 c κs = search needs
-
-enum-known-r-2 : tie.Need-enum-known-r-2
-enum-known-r-2 c = search needs
-
-refused-requires : tie.Need-refused-requires
-refused-requires c κs = search needs
-
 returns : tie.Need-returns
 returns c = c .given .ensures ∙ sym (ap (λ (x : Chosen). choiceAnswer (toldChosen x)) (c .before .before .r .given .1))
 
@@ -42,12 +24,12 @@ pub choice-answer-spec : {M : Type 1} → statement M
 choice-answer-spec =
     tie.close
     (tie.spec
-    enum-known-r
-    given-requires
-    enum-told
-    given-requires-2
-    enum-known-r-2
-    refused-requires
+    (λ c. search needs)
+    (λ c κs. search needs)
+    (λ c. search needs)
+    (λ c κs. search needs)
+    (λ c. search needs)
+    (λ c κs. search needs)
     returns
     returns-2
     returns-3)

@@ -9,14 +9,10 @@ use Rattle.krubbadin.proofs.deciding.krubbadin_rank.Lts as lts
 use Rattle.krubbadin.proofs.deciding.rank_answer.Reads as rank-answer-reads
 use Rattle.verdicts.proofs.rank.Reads as rank-reads
 
-rank-requires : tie.Need-rank-requires
-rank-requires c κs = search needs
-
-rank-answer-requires : tie.Need-rank-answer-requires
-rank-answer-requires c κs = search needs
-
 returns : tie.Need-returns
 returns c = c .rank-answer .ensures ∙ ap rankAnswer (c .before .rank .ensures)
 
 pub krubbadin-rank-spec : {M : Type 1} → statement M
-krubbadin-rank-spec = tie.close (tie.spec rank-requires rank-answer-requires returns)
+krubbadin-rank-spec = tie.close (tie.spec (λ c κs. search needs)
+    (λ c κs. search needs)
+    returns)

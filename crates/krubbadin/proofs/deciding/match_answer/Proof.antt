@@ -13,21 +13,6 @@ use Rattle.krubbadin.proofs.deciding.given.Reads as given-reads
 use Rattle.krubbadin.proofs.deciding.truth.Reads as truth-reads
 use Rattle.krubbadin.proofs.refused.Reads as refused-reads
 
-enum-known-r : tie.Need-enum-known-r
-enum-known-r c = search needs
-
-truth-requires : tie.Need-truth-requires
-truth-requires c κs = search needs
-
-given-requires : tie.Need-given-requires
-given-requires c κs = search needs
-
-enum-known-r-2 : tie.Need-enum-known-r-2
-enum-known-r-2 c = search needs
-
-refused-requires : tie.Need-refused-requires
-refused-requires c κs = search needs
-
 returns : tie.Need-returns
 returns c = c .given .ensures ∙ ap (λ (n : ℕ). givenWith n 0) (c .before .truth .ensures) ∙ sym (ap (λ (x : Matched). matchAnswer (toldMatched x)) (c .before .before .before .r .given .1))
 
@@ -38,10 +23,10 @@ pub match-answer-spec : {M : Type 1} → statement M
 match-answer-spec =
     tie.close
     (tie.spec
-    enum-known-r
-    truth-requires
-    given-requires
-    enum-known-r-2
-    refused-requires
+    (λ c. search needs)
+    (λ c κs. search needs)
+    (λ c κs. search needs)
+    (λ c. search needs)
+    (λ c κs. search needs)
     returns
     returns-2)

@@ -13,21 +13,6 @@ use Rattle.krubbadin.proofs.deciding.given.Reads as given-reads
 use Rattle.krubbadin.proofs.deciding.order_number.Reads as order-number-reads
 use Rattle.krubbadin.proofs.refused.Reads as refused-reads
 
-enum-known-r : tie.Need-enum-known-r
-enum-known-r c = search needs
-
-order-number-requires : tie.Need-order-number-requires
-order-number-requires c κs = search needs
-
-given-requires : tie.Need-given-requires
-given-requires c κs = search needs
-
-enum-known-r-2 : tie.Need-enum-known-r-2
-enum-known-r-2 c = search needs
-
-refused-requires : tie.Need-refused-requires
-refused-requires c κs = search needs
-
 returns : tie.Need-returns
 returns c = c .given .ensures ∙ ap (λ (n : ℕ). givenWith n 0) (c .before .order-number .ensures) ∙ sym (ap (λ (x : Ranked). rankAnswer (toldRanked x)) (c .before .before .before .r .given .1))
 
@@ -38,10 +23,10 @@ pub rank-answer-spec : {M : Type 1} → statement M
 rank-answer-spec =
     tie.close
     (tie.spec
-    enum-known-r
-    order-number-requires
-    given-requires
-    enum-known-r-2
-    refused-requires
+    (λ c. search needs)
+    (λ c κs. search needs)
+    (λ c κs. search needs)
+    (λ c. search needs)
+    (λ c κs. search needs)
     returns
     returns-2)

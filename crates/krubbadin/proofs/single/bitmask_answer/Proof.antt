@@ -11,18 +11,6 @@ use Rattle.krubbadin.proofs.single.bitmask_answer.Lts as lts
 use Rattle.krubbadin.proofs.single.bitmask_numbers.Reads as bitmask-numbers-reads
 use Rattle.krubbadin.proofs.single.no_operator.Reads as no-operator-reads
 
-enum-known-r : tie.Need-enum-known-r
-enum-known-r c = search needs
-
-bitmask-numbers-requires : tie.Need-bitmask-numbers-requires
-bitmask-numbers-requires c κs = search needs
-
-enum-known-r-2 : tie.Need-enum-known-r-2
-enum-known-r-2 c = search needs
-
-no-operator-requires : tie.Need-no-operator-requires
-no-operator-requires c κs = search needs
-
 returns : tie.Need-returns
 returns c = c .bitmask-numbers .ensures ∙ sym (ap (λ (x : BitmaskRead). bitmaskAnswer (bitmaskTold x)) (c .before .before .r .given .1))
 
@@ -33,9 +21,9 @@ pub bitmask-answer-spec : {M : Type 1} → statement M
 bitmask-answer-spec =
     tie.close
     (tie.spec
-    enum-known-r
-    bitmask-numbers-requires
-    enum-known-r-2
-    no-operator-requires
+    (λ c. search needs)
+    (λ c κs. search needs)
+    (λ c. search needs)
+    (λ c κs. search needs)
     returns
     returns-2)

@@ -15,33 +15,6 @@ use Rattle.operators.proofs.BitmaskOperator.partial_match.Reads as partial-matc
 use Rattle.operators.proofs.NumericOperator.equal_to.Reads as equal-to-reads
 use Rattle.operators.proofs.NumericOperator.greater_than_or_equal.Reads as greater-than-or-equal-reads
 
-equal-to-requires : tie.Need-equal-to-requires
-equal-to-requires c κs = search needs
-
-numeric-numbers-requires : tie.Need-numeric-numbers-requires
-numeric-numbers-requires c κs = search needs
-
-greater-than-or-equal-requires : tie.Need-greater-than-or-equal-requires
-greater-than-or-equal-requires c κs = search needs
-
-numeric-numbers-requires-2 : tie.Need-numeric-numbers-requires-2
-numeric-numbers-requires-2 c κs = search needs
-
-exact-match-requires : tie.Need-exact-match-requires
-exact-match-requires c κs = search needs
-
-bitmask-numbers-requires : tie.Need-bitmask-numbers-requires
-bitmask-numbers-requires c κs = search needs
-
-partial-match-requires : tie.Need-partial-match-requires
-partial-match-requires c κs = search needs
-
-bitmask-numbers-requires-2 : tie.Need-bitmask-numbers-requires-2
-bitmask-numbers-requires-2 c κs = search needs
-
-no-operator-requires : tie.Need-no-operator-requires
-no-operator-requires c κs = search needs
-
 returns : tie.Need-returns
 unfolding operatorMade
 returns c = c .numeric-numbers .ensures ∙ ap numericNumbers (c .before .equal-to .ensures) ∙ rw (c .before .before .match .keys1)
@@ -66,15 +39,15 @@ pub krubbadin-operator-make-spec : {M : Type 1} → statement M
 krubbadin-operator-make-spec =
     tie.close
     (tie.spec
-    equal-to-requires
-    numeric-numbers-requires
-    greater-than-or-equal-requires
-    numeric-numbers-requires-2
-    exact-match-requires
-    bitmask-numbers-requires
-    partial-match-requires
-    bitmask-numbers-requires-2
-    no-operator-requires
+    (λ c κs. search needs)
+    (λ c κs. search needs)
+    (λ c κs. search needs)
+    (λ c κs. search needs)
+    (λ c κs. search needs)
+    (λ c κs. search needs)
+    (λ c κs. search needs)
+    (λ c κs. search needs)
+    (λ c κs. search needs)
     returns
     returns-2
     returns-3

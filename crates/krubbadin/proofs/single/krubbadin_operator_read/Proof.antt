@@ -12,21 +12,9 @@ use Rattle.krubbadin.proofs.single.numeric_answer.Reads as numeric-answ
 use Rattle.operators.proofs.BitmaskOperator.from_byte_and_value.Reads as BitmaskOperator-from-byte-and-value-reads
 use Rattle.operators.proofs.NumericOperator.from_byte_and_value.Reads as NumericOperator-from-byte-and-value-reads
 
-from-byte-and-value-requires : tie.Need-from-byte-and-value-requires
-from-byte-and-value-requires c κs = search needs
-
-numeric-answer-requires : tie.Need-numeric-answer-requires
-numeric-answer-requires c κs = search needs
-
 returns : tie.Need-returns
 unfolding operatorRead
 returns c = c .numeric-answer .ensures ∙ ap numericAnswer (c .before .from-byte-and-value .ensures) ∙ simp (eq-eqb _ _ (c .before .before .if1 .taken))
-
-from-byte-and-value-requires-2 : tie.Need-from-byte-and-value-requires-2
-from-byte-and-value-requires-2 c κs = search needs
-
-bitmask-answer-requires : tie.Need-bitmask-answer-requires
-bitmask-answer-requires c κs = search needs
 
 returns-2 : tie.Need-returns-2
 unfolding operatorRead
@@ -36,9 +24,9 @@ pub krubbadin-operator-read-spec : {M : Type 1} → statement M
 krubbadin-operator-read-spec =
     tie.close
     (tie.spec
-    from-byte-and-value-requires
-    numeric-answer-requires
+    (λ c κs. search needs)
+    (λ c κs. search needs)
     returns
-    from-byte-and-value-requires-2
-    bitmask-answer-requires
+    (λ c κs. search needs)
+    (λ c κs. search needs)
     returns-2)

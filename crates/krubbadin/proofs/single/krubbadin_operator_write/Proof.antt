@@ -10,15 +10,6 @@ use Rattle.krubbadin.proofs.single.is_record.Reads as is-record-reads
 use Rattle.krubbadin.proofs.single.octet_answer.Reads as octet-answer-reads
 use Rattle.krubbadin.proofs.single.record_octet.Reads as record-octet-reads
 
-is-record-requires : tie.Need-is-record-requires
-is-record-requires c κs = search needs
-
-record-octet-requires : tie.Need-record-octet-requires
-record-octet-requires c κs = search needs
-
-octet-answer-requires : tie.Need-octet-answer-requires
-octet-answer-requires c κs = search needs
-
 returns : tie.Need-returns
 unfolding operatorWritten
 returns c = let t = sym (c .before .before .before .is-record .ensures) ∙ c .before .before .if1 .taken in c .octet-answer .ensures ∙ ap octetAnswer (c .before .record-octet .ensures) ∙ simp t
@@ -30,4 +21,8 @@ returns-2 c = let t = sym (c .before .is-record .ensures) ∙ c .if1 .left in si
 pub krubbadin-operator-write-spec : {M : Type 1} → statement M
 krubbadin-operator-write-spec =
     tie.close
-    (tie.spec is-record-requires record-octet-requires octet-answer-requires returns returns-2)
+    (tie.spec (λ c κs. search needs)
+    (λ c κs. search needs)
+    (λ c κs. search needs)
+    returns
+    returns-2)

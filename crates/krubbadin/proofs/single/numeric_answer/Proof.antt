@@ -11,18 +11,6 @@ use Rattle.krubbadin.proofs.single.numeric_answer.Lts as lts
 use Rattle.krubbadin.proofs.single.no_operator.Reads as no-operator-reads
 use Rattle.krubbadin.proofs.single.numeric_numbers.Reads as numeric-numbers-reads
 
-enum-known-r : tie.Need-enum-known-r
-enum-known-r c = search needs
-
-numeric-numbers-requires : tie.Need-numeric-numbers-requires
-numeric-numbers-requires c κs = search needs
-
-enum-known-r-2 : tie.Need-enum-known-r-2
-enum-known-r-2 c = search needs
-
-no-operator-requires : tie.Need-no-operator-requires
-no-operator-requires c κs = search needs
-
 returns : tie.Need-returns
 returns c = c .numeric-numbers .ensures ∙ sym (ap (λ (x : NumericRead). numericAnswer (numericTold x)) (c .before .before .r .given .1))
 
@@ -33,9 +21,9 @@ pub numeric-answer-spec : {M : Type 1} → statement M
 numeric-answer-spec =
     tie.close
     (tie.spec
-    enum-known-r
-    numeric-numbers-requires
-    enum-known-r-2
-    no-operator-requires
+    (λ c. search needs)
+    (λ c κs. search needs)
+    (λ c. search needs)
+    (λ c κs. search needs)
     returns
     returns-2)

@@ -10,18 +10,6 @@ use Rattle.krubbadin.proofs.single.octet_answer.Reads as reads
 use Rattle.krubbadin.proofs.single.octet_answer.Lts as lts
 use Rattle.krubbadin.proofs.refused.Reads as refused-reads
 
-enum-known-r : tie.Need-enum-known-r
-enum-known-r c = search needs
-
-cast-t5 : tie.Need-cast-t5
-cast-t5 c = search needs
-
-enum-known-r-2 : tie.Need-enum-known-r-2
-enum-known-r-2 c = search needs
-
-refused-requires : tie.Need-refused-requires
-refused-requires c κs = search needs
-
 returns : tie.Need-returns
 returns c = sym (ap (λ (x : OctetMade). octetAnswer (octetTold x)) (c .before .r .given .1))
 
@@ -30,4 +18,9 @@ returns-2 c = c .refused .ensures ∙ sym (ap (λ (x : OctetMade). octetAnswer (
 
 pub octet-answer-spec : {M : Type 1} → statement M
 octet-answer-spec =
-    tie.close (tie.spec enum-known-r cast-t5 enum-known-r-2 refused-requires returns returns-2)
+    tie.close (tie.spec (λ c. search needs)
+    (λ c. search needs)
+    (λ c. search needs)
+    (λ c κs. search needs)
+    returns
+    returns-2)

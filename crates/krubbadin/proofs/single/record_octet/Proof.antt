@@ -10,19 +10,16 @@ use Rattle.krubbadin.proofs.single.record_octet.Lts as lts
 use Rattle.operators.proofs.BitmaskOperator.to_byte.Reads as BitmaskOperator-to-byte-reads
 use Rattle.operators.proofs.NumericOperator.to_byte.Reads as NumericOperator-to-byte-reads
 
-to-byte-requires : tie.Need-to-byte-requires
-to-byte-requires c κs = search needs
-
 returns : tie.Need-returns
 unfolding recordOctet
 returns c = simp (eq-eqb _ _ (c .before .if1 .taken), c .to-byte .ensures, div-one)
-
-to-byte-requires-2 : tie.Need-to-byte-requires-2
-to-byte-requires-2 c κs = search needs
 
 returns-2 : tie.Need-returns-2
 unfolding recordOctet
 returns-2 c = simp (ne-eqb _ _ (c .before .if1 .left), c .to-byte2 .ensures, div-one)
 
 pub record-octet-spec : {M : Type 1} → statement M
-record-octet-spec = tie.close (tie.spec to-byte-requires returns to-byte-requires-2 returns-2)
+record-octet-spec = tie.close (tie.spec (λ c κs. search needs)
+    returns
+    (λ c κs. search needs)
+    returns-2)

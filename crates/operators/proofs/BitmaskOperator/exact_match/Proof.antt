@@ -6,11 +6,9 @@ use Rattle.operators.proofs.BitmaskOperator.exact_match.Reads as reads
 use Rattle.operators.proofs.BitmaskOperator.exact_match.Lts as lts
 use Rattle.operators.proofs.least_width.Reads as least-width-reads
 
-least-width-requires : tie.Need-least-width-requires
-least-width-requires c κs = search needs
-
 returns : tie.Need-returns
 returns c = simp (c .least-width .ensures)
 
 pub exact-match-spec : {M : Type 1} → statement M
-exact-match-spec = tie.close (tie.spec least-width-requires returns)
+exact-match-spec = tie.close (tie.spec (λ c κs. search needs)
+    returns)

@@ -15,9 +15,6 @@ returns : tie.Need-returns
 unfolding bitmaskFrom
 returns c = simp (reserved (c .before .args .octet) (c .if1 .taken))
 
-width-requires : tie.Need-width-requires
-width-requires c κs = search needs
-
 cast-t12 : tie.Need-cast-t12
 cast-t12 c = omega (arith, c .width .ensures, width-most (c .before .before .args .octet))
 
@@ -26,4 +23,7 @@ unfolding bitmaskFrom
 returns-2 c = simp (clear (c .before .before .args .octet) (c .before .if1 .left), c .width .ensures, div-one)
 
 pub from-byte-and-value-spec : {M : Type 1} → statement M
-from-byte-and-value-spec = tie.close (tie.spec returns width-requires cast-t12 returns-2)
+from-byte-and-value-spec = tie.close (tie.spec returns
+    (λ c κs. search needs)
+    cast-t12
+    returns-2)

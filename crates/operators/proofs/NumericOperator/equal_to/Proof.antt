@@ -6,11 +6,9 @@ use Rattle.operators.proofs.NumericOperator.equal_to.Reads as reads
 use Rattle.operators.proofs.NumericOperator.equal_to.Lts as lts
 use Rattle.operators.proofs.least_width.Reads as least-width-reads
 
-least-width-requires : tie.Need-least-width-requires
-least-width-requires c κs = search needs
-
 returns : tie.Need-returns
 returns c = simp (c .least-width .ensures)
 
 pub equal-to-spec : {M : Type 1} → statement M
-equal-to-spec = tie.close (tie.spec least-width-requires returns)
+equal-to-spec = tie.close (tie.spec (λ c κs. search needs)
+    returns)

@@ -6,11 +6,9 @@ use Rattle.operators.proofs.NumericOperator.greater_than_or_equal.Reads
 use Rattle.operators.proofs.NumericOperator.greater_than_or_equal.Lts as lts
 use Rattle.operators.proofs.least_width.Reads as least-width-reads
 
-least-width-requires : tie.Need-least-width-requires
-least-width-requires c κs = search needs
-
 returns : tie.Need-returns
 returns c = simp (c .least-width .ensures)
 
 pub greater-than-or-equal-spec : {M : Type 1} → statement M
-greater-than-or-equal-spec = tie.close (tie.spec least-width-requires returns)
+greater-than-or-equal-spec = tie.close (tie.spec (λ c κs. search needs)
+    returns)

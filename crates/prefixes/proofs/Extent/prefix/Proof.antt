@@ -20,14 +20,8 @@ use Rattle.prefixes.proofs.plain_of.Reads as plain-of-reads
 sub-octets-of : tie.Need-sub-octets-of
 sub-octets-of c = (extends _ _ (c .before .before .pre)) .offset
 
-octets-of-requires : tie.Need-octets-of-requires
-octets-of-requires c κs = search needs
-
 read-pattern-requires : tie.Need-read-pattern-requires
 read-pattern-requires c κs = let x = extends _ _ (c .before .before .before .pre) in (omega (arith, x .within, x .next, c .octets-of .ensures), omega (arith, x .most, c .octets-of .ensures))
-
-enum-told : tie.Need-enum-told
-enum-told c = search needs
 
 plain-of-requires : tie.Need-plain-of-requires
 plain-of-requires c κs =
@@ -37,9 +31,6 @@ plain-of-requires c κs =
     let k : q .before .octets-of .result ≡ octetsOf (g .args .self .length) = omega (arith, q .before .octets-of .ensures, b .1) in
     (b .0, value-below (g .args .s .now) (g .args .self .from) _ _ k _ (q .read-pattern .ensures .0) (q .read-pattern .ensures .1))
 
-enum-told-2 : tie.Need-enum-told-2
-enum-told-2 c = search needs
-
 ipv4-of-requires : tie.Need-ipv4-of-requires
 ipv4-of-requires c κs =
     let q = c .before .before in
@@ -47,9 +38,6 @@ ipv4-of-requires c κs =
     let b = subst (λ (r : Reading). Ranged r (g .args .self .length) (g .args .self .offset)) (c .enum-told2 .given .1) (extends _ _ (g .pre) .ranged) in
     let k : q .before .octets-of .result ≡ octetsOf (g .args .self .length) = omega (arith, q .before .octets-of .ensures, b .1) in
     (b .0, value-below (g .args .s .now) (g .args .self .from) _ _ k _ (q .read-pattern .ensures .0) (q .read-pattern .ensures .1))
-
-enum-told-3 : tie.Need-enum-told-3
-enum-told-3 c = search needs
 
 ipv6-of-requires : tie.Need-ipv6-of-requires
 ipv6-of-requires c κs =
@@ -87,13 +75,13 @@ prefix-spec =
     tie.close
     (tie.spec
     sub-octets-of
-    octets-of-requires
+    (λ c κs. search needs)
     read-pattern-requires
-    enum-told
+    (λ c. search needs)
     plain-of-requires
-    enum-told-2
+    (λ c. search needs)
     ipv4-of-requires
-    enum-told-3
+    (λ c. search needs)
     ipv6-of-requires
     returns
     returns-2

@@ -5,15 +5,11 @@ use Rattle.rules.specs.Components.{numericType}
 use Rattle.rules.proofs.FlowSpecComponent.uses_numeric_operators.Statement.{statement}
 use Rattle.rules.proofs.FlowSpecComponent.uses_numeric_operators.Tie as tie
 
-component-type-requires : tie.Need-component-type-requires
-component-type-requires c κs = search needs
-
-is-numeric-requires : tie.Need-is-numeric-requires
-is-numeric-requires c κs = search needs
-
 returns : tie.Need-returns
 returns c = c .is-numeric .ensures ∙ ap numericType (c .before .component-type .ensures)
 
 pub uses-numeric-operators-spec : {M : Type 1} → statement M
 uses-numeric-operators-spec =
-    tie.close (tie.spec component-type-requires is-numeric-requires returns)
+    tie.close (tie.spec (λ c κs. search needs)
+    (λ c κs. search needs)
+    returns)

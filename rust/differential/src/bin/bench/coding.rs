@@ -2,10 +2,9 @@
 
 use crate::timing::{heading, opaque, repeat, row, times, Bar};
 use differential::compare::Comparison;
-use differential::inputs::{framed, octets};
-use differential::random::Random;
 use differential::stored::{Stored, WORDS};
 use differential::{archive, peers, Form, LONGEST_BODY, LONGEST_INPUT, MOST_OPERATORS};
+use inputs::{framed, octets, Random};
 use oracle::flowspec::{encode_flowspec_nlri, parse_flowspec_nlri};
 
 /// The two cases whose times per octet are compared.

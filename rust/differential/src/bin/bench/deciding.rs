@@ -6,9 +6,9 @@
 use crate::coding::ports;
 use crate::timing::{heading, opaque, repeat, row, times, Bar};
 use differential::compare::Comparison;
-use differential::inputs::{framed, octets};
 use differential::stored::Stored;
 use differential::{archive, packets, tables, wordwise};
+use inputs::{framed, octets};
 use standard::{direct, Content, Flow, Packet};
 
 /// At most so much of the Rust chooser's time.

@@ -1,0 +1,10 @@
+//! Inputs of the readings, and the generator of everything that is random: what the comparison and
+//! the tests of the crates share.
+
+mod form;
+mod random;
+mod readings;
+
+pub use form::{Form, LONGEST_BODY, LONGEST_INPUT};
+pub use random::Random;
+pub use readings::{by_rule, framed, list_of, octets, random, Take, FIXED};

@@ -1,0 +1,520 @@
+//! Inputs of the readings: those made by rule, which every run has, and random ones.
+
+use crate::form::{Form, LONGEST_BODY, LONGEST_INPUT};
+use crate::random::Random;
+
+/// Whoever is handed the inputs, one after another.
+pub type Take<'a> = &'a mut dyn FnMut(&[u8]);
+
+/// Document 01's cases and the RFCs' worked examples (RFC 8955, 4.3; RFC 8956, 3.8), then rules of
+/// several lists, operators and widths, and longer ones.
+pub const FIXED: [&str; 36] = [
+    "",
+    "F0",
+    "EF",
+    "00",
+    "F0 05 01 18 C0 00 02",
+    "05 01 18 C0 00 02",
+    "02 03 81 06 05",
+    "03 03 89 06",
+    "03 03 81 06",
+    "02 03 89",
+    "01 00",
+    "01 0E",
+    "06 03 81 06 03 81 11",
+    "03 01 04 FF",
+    "02 01 81",
+    "02 01 21",
+    "12 01 80 20 01 0D B8 00 00 00 00 00 00 00 00 00 00 00 01",
+    "04 0D 81 00 0E",
+    "04 01 41 3F C0",
+    "03 01 40 40",
+    "03 01 00 00",
+    "08 05 03 50 45 5A 91 01 BB",
+    "03 09 81 12",
+    "03 09 80 12",
+    "03 01 08 0A",
+    "04 01 10 0A 01",
+    "0B 01 18 C0 00 02 03 81 06 04 81 19",
+    "12 01 18 C0 00 02 02 18 CB 00 71 04 03 89 45 8B 91 1F 90",
+    "09 01 20 C0 00 02 01 0C 80 05",
+    "12 01 20 00 20 01 0D B8 02 68 40 12 34 56 78 9A 03 81 06",
+    "0F 01 20 00 20 01 0D B8 02 68 41 24 68 AC F1 34",
+    "06 03 81 06 05 81 50",
+    "0D 05 13 00 50 D5 00 5A 0A A1 00 00 05 DC",
+    "15 0A 03 40 D4 02 00 0C 40 01 81 02 0D B1 00 00 00 00 00 0A BC DE",
+    "10 0B 01 0A 81 2E 0C 01 01 82 02 0D A1 00 0F FF FF",
+    "1A 03 81 06 04 81 19 05 81 50 06 81 51 07 81 08 08 81 00 09 81 02 0A 81 40 0B 81 0A",
+];
+
+/// The octets that a text in hex stands for, with blanks between them.
+pub fn octets(text: &str) -> Vec<u8> {
+    let octets = text
+        .split_whitespace()
+        .map(|pair| u8::from_str_radix(pair, 16));
+    octets
+        .collect::<Result<_, _>>()
+        .expect("the texts here are hex")
+}
+
+/// All inputs that are made by rule.
+pub fn by_rule(form: Form, take: Take) {
+    short(take);
+    prefixes(form, take);
+    operators(take);
+    orders(form, take);
+    let good = good_inputs(form);
+    good.iter().for_each(|input| cuts(input, take));
+    good.iter().for_each(|input| restated(input, take));
+    long_bodies(take);
+    long_inputs(take);
+}
+
+/// A random input: good, damaged, wrongly stated, or octets with little or no sense.
+pub fn random(form: Form, random: &mut Random, input: &mut Vec<u8>) {
+    input.clear();
+    match random.below(1000) {
+        0 => long_input(random, input),
+        1..=399 => good(form, random, input),
+        400..=749 => {
+            good(form, random, input);
+            damage(random, input);
+        }
+        750..=849 => misstated(form, random, input),
+        850..=949 => {
+            let body: Vec<u8> = (0..random.below(16)).map(|_| telling(random)).collect();
+            frame(body.len(), random.once_in(8), &body, input);
+        }
+        _ => input.extend((0..random.below(40)).map(|_| random.octet())),
+    }
+}
+
+/// All inputs of up to two octets, and those of three whose first octet says how the rest is read:
+/// no body, one octet of it, all of it, more than there is, and lengths of two octets.
+fn short(take: Take) {
+    take(&[]);
+    for first in 0..=255 {
+        take(&[first]);
+        for second in 0..=255 {
+            take(&[first, second]);
+        }
+    }
+    for first in [0, 1, 2, 3, 0xEF, 0xF0, 0xF1, 0xFF] {
+        for second in 0..=255 {
+            for third in 0..=255 {
+                take(&[first, second, third]);
+            }
+        }
+    }
+}
+
+/// Every prefix length with every number of octets behind it, in IPv6 also every offset; the
+/// stated end right, before the last octet and past it.
+fn prefixes(form: Form, take: Take) {
+    let offsets: &[Option<u8>] = match form {
+        Form::Standard(6) => &[
+            None,
+            Some(0),
+            Some(1),
+            Some(7),
+            Some(8),
+            Some(64),
+            Some(127),
+        ],
+        _ => &[None],
+    };
+    let mut input = Vec::new();
+    for kind in [1, 2] {
+        for length in 0..=255 {
+            for &offset in offsets {
+                for count in 0..=17 {
+                    let mut body = vec![kind, length];
+                    body.extend(offset);
+                    body.extend(ramp(count));
+                    let size = body.len();
+                    for stated in size - 1..=size + 1 {
+                        frame_anew(stated, false, &body, &mut input);
+                        take(&input);
+                    }
+                    body.push(0x03);
+                    frame_anew(size, false, &body, &mut input);
+                    take(&input);
+                }
+            }
+        }
+    }
+    if form == Form::Standard(6) {
+        every_offset(take);
+    }
+}
+
+fn every_offset(take: Take) {
+    for length in 0..=255 {
+        for offset in 0..=255 {
+            for count in 0..=17 {
+                let mut body = vec![1 + offset % 2, length, offset];
+                body.extend(ramp(count).map(|octet| if length % 2 == 0 { 0xFF } else { octet }));
+                take(&framed(&body));
+            }
+        }
+    }
+}
+
+/// Every operator octet in every list type with up to ten octets behind it, as the first operator
+/// and as a second, the stated end right, before the last octet and past it; then behind another
+/// list, and with an operator that ends the list behind it.
+fn operators(take: Take) {
+    let mut input = Vec::new();
+    for kind in 3..=13 {
+        for octet in 0..=255 {
+            for before in [&[kind][..], &[kind, 0x01, 0x2A]] {
+                for count in 0..=10 {
+                    let mut body = [before, &[octet]].concat();
+                    body.extend(ramp(count));
+                    for stated in body.len() - 1..=body.len() + 1 {
+                        frame_anew(stated, false, &body, &mut input);
+                        take(&input);
+                    }
+                }
+            }
+            let value: Vec<u8> = ramp(1 << (octet >> 4 & 3)).collect();
+            let operator = [&[kind, octet][..], &value].concat();
+            take(&framed(&[&[0x03, 0x81, 0x06], &operator[..]].concat()));
+            take(&framed(&[&operator[..], &[0x81, 0x07]].concat()));
+            take(&framed(
+                &[&operator[..], &[0xC0, 0x07], &[0x0D, 0x81, 0x01]].concat(),
+            ));
+        }
+    }
+}
+
+/// Every type alone and after every known one, two known ones before a third, and all of them.
+fn orders(form: Form, take: Take) {
+    let component = |kind| component(form, kind);
+    for kind in 0..=255 {
+        take(&framed(&component(kind)));
+        for first in 1..=14 {
+            take(&framed(&[component(first), component(kind)].concat()));
+        }
+    }
+    for first in 1..=13 {
+        for second in first + 1..=13 {
+            for third in 0..=15 {
+                let body = [component(first), component(second), component(third)].concat();
+                take(&framed(&body));
+            }
+        }
+    }
+    for last in 1..=15 {
+        take(&framed(
+            &(1..=last).flat_map(component).collect::<Vec<u8>>(),
+        ));
+    }
+}
+
+/// The fixed inputs, and random ones that are accepted; the same in every run.
+fn good_inputs(form: Form) -> Vec<Vec<u8>> {
+    let mut inputs: Vec<Vec<u8>> = FIXED.iter().map(|text| octets(text)).collect();
+    let mut random = Random::new(0xF10);
+    for _ in 0..400 {
+        let mut input = Vec::new();
+        good(form, &mut random, &mut input);
+        inputs.push(input);
+    }
+    inputs
+}
+
+/// Every truncation, with the length as it was and with the length made right again.
+fn cuts(input: &[u8], take: Take) {
+    for end in 0..=input.len() {
+        take(&input[..end]);
+    }
+    let body = body_of(input);
+    for end in 0..=body.len() {
+        take(&framed(&body[..end]));
+    }
+}
+
+/// Every stated length to beyond the end, in one octet and in two, with more octets behind and with
+/// none: the last component then overruns the stated end, or what follows is taken for one.
+fn restated(input: &[u8], take: Take) {
+    let body = body_of(input);
+    let mut made = Vec::new();
+    for behind in [&[][..], &[0x00], &[0x0D, 0x81, 0x07]] {
+        let longer = [body, behind].concat();
+        for stated in 0..=longer.len() + 2 {
+            for two_octets in [false, true] {
+                frame_anew(stated, two_octets, &longer, &mut made);
+                take(&made);
+            }
+        }
+    }
+}
+
+/// Bodies where the length takes a second octet, where its high part begins and at the longest, of
+/// each width; some of the longest with every truncation.
+fn long_bodies(take: Take) {
+    let edges = (236..=243).chain(253..=259).chain([1024, 2303]);
+    let mut input = Vec::new();
+    for length in edges.chain(4086..=LONGEST_BODY) {
+        for (kind, code) in [(4, 0), (4, 1), (9, 2), (4, 3), (12, 0), (13, 3)] {
+            let body = list_of(kind, length, code);
+            for two_octets in [false, true] {
+                frame_anew(length, two_octets, &body, &mut input);
+                take(&input);
+                take(&input[..input.len() - 1]);
+                input.push(0x05);
+                take(&input);
+            }
+            for stated in [239, 240, 241, 255, 256, 257, length - 1, length + 1] {
+                frame_anew(stated, false, &body, &mut input);
+                take(&input);
+                input.push(0x05);
+                take(&input);
+            }
+        }
+    }
+    for code in 0..4 {
+        let input = framed(&list_of(4, LONGEST_BODY, code));
+        (0..input.len()).for_each(|end| take(&input[..end]));
+    }
+}
+
+/// Inputs of lengths around the longest that the plain reading takes, and far above, with a short
+/// rule in front, a long one, none, and no sense.
+fn long_inputs(take: Take) {
+    let lengths = (4090..=4102).chain([5000, 8194, 65_536, 65_537, 100_000]);
+    let mut random = Random::new(0xF11);
+    let fronts = [
+        octets("06 03 81 06 05 81 50"),
+        octets("02 03 81 06 05"),
+        octets("01 0E"),
+        framed(&list_of(4, 4000, 0)),
+        framed(&list_of(10, LONGEST_BODY, 3)),
+        vec![0x00],
+        vec![0xFF, 0xFF],
+        vec![0xF0],
+    ];
+    for length in lengths {
+        for front in &fronts {
+            let mut input = front.clone();
+            input.resize_with(length.max(front.len()), || random.octet());
+            take(&input);
+            input.truncate(length);
+            take(&input);
+            input[front.len().min(length)..].fill(0);
+            take(&input);
+        }
+    }
+}
+
+/// A rule that is accepted, most often with nothing behind it.
+fn good(form: Form, random: &mut Random, input: &mut Vec<u8>) {
+    let body = good_body(form, random);
+    frame(body.len(), random.once_in(8), &body, input);
+    if random.once_in(4) {
+        input.extend((0..=random.below(4)).map(|_| random.octet()));
+    }
+}
+
+fn good_body(form: Form, random: &mut Random) -> Vec<u8> {
+    let last = if form == Form::Standard(4) { 12 } else { 13 };
+    let odds = random.pick(&[2, 4, 4, 6]);
+    let most = random.pick(&[1, 2, 4, 4, 8, 40]);
+    let mut body = Vec::new();
+    for kind in 1..=last {
+        if !random.once_in(odds) {
+            continue;
+        }
+        body.push(kind);
+        match kind {
+            1 | 2 => prefix(form, random, &mut body),
+            _ => list(form, random, kind, most, &mut body),
+        }
+    }
+    body
+}
+
+fn prefix(form: Form, random: &mut Random, body: &mut Vec<u8>) {
+    let bits = match form {
+        Form::Standard(6) => {
+            let length = random.below(129);
+            let offset = match random.below(2) {
+                0 => 0,
+                _ => random.below(length.max(1)),
+            };
+            body.extend([length as u8, offset as u8]);
+            length - offset
+        }
+        _ => {
+            let longest = if form == Form::Plain && random.once_in(2) {
+                128
+            } else {
+                32
+            };
+            let length = random.below(longest + 1);
+            body.push(length as u8);
+            length
+        }
+    };
+    body.extend((0..(bits + 7) / 8).map(|_| random.octet()));
+}
+
+/// A list of up to so many operators. The standard reading accepts reserved bits.
+fn list(form: Form, random: &mut Random, kind: u8, most: usize, body: &mut Vec<u8>) {
+    let allowed = match (form, kind) {
+        (Form::Standard(_), _) if random.once_in(2) => 0x7F,
+        (_, 9 | 12) => 0x73,
+        _ => 0x77,
+    };
+    let one_width = if random.once_in(3) {
+        Some(random.octet() & 0x30)
+    } else {
+        None
+    };
+    for left in (0..=random.below(most)).rev() {
+        let mut octet = random.octet() & allowed;
+        octet = one_width.map_or(octet, |width| octet & !0x30 | width);
+        if left == 0 {
+            octet |= 0x80;
+        }
+        body.push(octet);
+        let value = random.value().to_be_bytes();
+        body.extend(&value[8 - (1 << (octet >> 4 & 3))..]);
+    }
+}
+
+/// One to three faults.
+fn damage(random: &mut Random, input: &mut Vec<u8>) {
+    for _ in 0..=random.below(3) {
+        if input.is_empty() {
+            return;
+        }
+        let place = random.below(input.len());
+        match random.below(10) {
+            0 => input[place] = random.octet(),
+            1 => input[place] = telling(random),
+            2 | 3 => input[place] ^= 1 << random.below(8),
+            4 => input.insert(place, telling(random)),
+            5 => {
+                input.remove(place);
+            }
+            6 => input.truncate(place),
+            7 => input.push(telling(random)),
+            8 => {
+                let other = random.below(input.len());
+                input.swap(place, other);
+            }
+            _ => input[0] = place as u8,
+        }
+    }
+}
+
+/// A good body behind a length that is not its own.
+fn misstated(form: Form, random: &mut Random, input: &mut Vec<u8>) {
+    let mut body = good_body(form, random);
+    let size = body.len();
+    let stated = match random.below(4) {
+        0 => random.below(size + 2),
+        1 => size + 1 + random.below(3),
+        _ => size.saturating_sub(1 + random.below(3)),
+    };
+    body.extend((0..random.below(5)).map(|_| telling(random)));
+    frame(stated, random.once_in(8), &body, input);
+}
+
+/// A long one, now and then damaged, near the longest or anywhere below.
+fn long_input(random: &mut Random, input: &mut Vec<u8>) {
+    let length = match random.below(3) {
+        0 => 4085 + random.below(11),
+        1 => 236 + random.below(24),
+        _ => 300 + random.below(3700),
+    };
+    let kind = random.pick(&[4, 5, 9, 10, 12]);
+    let body = list_of(kind, length, random.below(4) as u8);
+    frame(length, random.once_in(8), &body, input);
+    match random.below(4) {
+        0 => damage(random, input),
+        1 => input.resize(LONGEST_INPUT - 3 + random.below(8), 0x2A),
+        _ => {}
+    }
+}
+
+/// An octet that means something where it is likely to stand.
+fn telling(random: &mut Random) -> u8 {
+    match random.below(4) {
+        0 => random.below(16) as u8,
+        1 => random.pick(&[
+            0x80, 0x81, 0x01, 0x11, 0x91, 0xA1, 0xB1, 0x41, 0xC1, 0x89, 0x84,
+        ]),
+        2 => random.pick(&[
+            0, 1, 7, 8, 9, 24, 31, 32, 33, 64, 127, 128, 129, 239, 240, 255,
+        ]),
+        _ => random.octet(),
+    }
+}
+
+/// A body of exactly so many octets, at least 3: one list, of values with this code as far as it
+/// comes out.
+pub fn list_of(kind: u8, length: usize, code: u8) -> Vec<u8> {
+    let mut body = vec![kind];
+    let mut place = 0;
+    while body.len() < length {
+        let left = length - body.len();
+        let fits = |code: &u8| {
+            let taken = 1 + (1 << code);
+            taken == left || taken + 2 <= left
+        };
+        let code = (0..=code).rev().find(fits).unwrap_or(1);
+        let taken = 1 + (1 << code);
+        let end = if taken == left { 0x80 } else { 0 };
+        let and = if place % 3 == 1 { 0x40 } else { 0 };
+        body.push(end | and | code << 4 | (place % 4) as u8);
+        body.extend((1..taken).map(|at| (place * 37 + at * 11) as u8));
+        place += 1;
+    }
+    body
+}
+
+/// A least component of this type; of an unknown type, octets that a list could have.
+fn component(form: Form, kind: u8) -> Vec<u8> {
+    match (kind, form) {
+        (1 | 2, Form::Standard(6)) => vec![kind, 0x08, 0x00, 0x0A],
+        (1 | 2, _) => vec![kind, 0x08, 0x0A],
+        _ => vec![kind, 0x81, 0x06],
+    }
+}
+
+/// Octets that all differ, highest and lowest bits set: none lost, moved or masked goes unseen.
+fn ramp(count: usize) -> impl Iterator<Item = u8> {
+    (1..=count).map(|place| (place * 0x22) as u8 | 0x81)
+}
+
+/// What stands behind the length field.
+fn body_of(input: &[u8]) -> &[u8] {
+    match input.first() {
+        Some(0xF0..=0xFF) => input.get(2..).unwrap_or_default(),
+        _ => input.get(1..).unwrap_or_default(),
+    }
+}
+
+pub fn framed(body: &[u8]) -> Vec<u8> {
+    let mut input = Vec::new();
+    frame(body.len(), false, body, &mut input);
+    input
+}
+
+/// Puts a body behind a stated length, which need not be its own and takes two octets if it must or
+/// if that is asked for.
+fn frame(stated: usize, two_octets: bool, body: &[u8], input: &mut Vec<u8>) {
+    if two_octets || stated >= 240 {
+        input.push(0xF0 | (stated >> 8) as u8);
+    }
+    input.push(stated as u8);
+    input.extend(body);
+}
+
+fn frame_anew(stated: usize, two_octets: bool, body: &[u8], input: &mut Vec<u8>) {
+    input.clear();
+    frame(stated, two_octets, body, input);
+}
