@@ -1,4 +1,4 @@
--- Texts put one after the other: the first part and the rest of a text have room where the whole has, and put in turn they are the whole put. Of a
+-- Texts put one after the other: the first part and the rest of a text are placeable where the whole is, and put in turn they are the whole put. Of a
 -- text put by a loop, `Left` tells what is left to put.
 use Prim.Native.Nat.{ℕ, _+_}
 use mathlib.Core.Path.{_≡_, refl, sym, ap, ap₂, _∙_, subst}

@@ -1,5 +1,4 @@
 // The calls of the stored list, by their names, each put to the proved code and answered in the list's words.
-use choices::Reading;
 use operators::BitmaskOperator;
 use operators::BitmaskRead;
 use operators::NumericOperator;
@@ -7,8 +6,6 @@ use operators::NumericRead;
 use operators::OctetMade;
 use reading::ReadInto;
 use rules::FlowSpecComponent;
-use rules::FlowSpecNlri;
-use writing::Written;
 
 fn put_octet(out: &mut [u8], at: usize, made: OctetMade) -> usize {
     match made {
@@ -96,10 +93,12 @@ fn bitmask_record(line: &[u8], out: &mut [u8]) -> usize {
 
 // The NLRI in field 1 by the plain reading: its rule as text.
 fn parse(line: &[u8], out: &mut [u8]) -> usize {
+    let mut input = [0u8; 5000];
     let mut words = [0u64; 64];
     let mut values = [0u64; 2100];
     let mut octets = [0u8; 2100];
-    match super::ruletext::read_nlri(line, 6, &mut words, &mut values, &mut octets) {
+    let n = super::ruletext::read_octets(line, 6, &mut input);
+    match super::ruletext::read_front(&input, n, &mut words, &mut values, &mut octets) {
         ReadInto::Read {
             used: _,
             operators: _,
@@ -114,46 +113,8 @@ fn put_read(words: &[u64; 64], values: &[u64], octets: &[u8], out: &mut [u8]) ->
     super::ruletext::put_rule(out, at, words, values, octets)
 }
 
-// A rule written by the plain writing.
-fn encode(line: &[u8], out: &mut [u8]) -> usize {
-    let mut words = [0u64; 64];
-    let mut values = [0u64; 2100];
-    let mut octets = [0u8; 2100];
-    let mut written = [0u8; 5000];
-    super::ruletext::read_rule(line, 7, &mut words, &mut values, &mut octets);
-    put_written(&words, &values, &octets, &mut written, out)
-}
-
-fn put_written(
-    words: &[u64],
-    values: &[u64],
-    octets: &[u8],
-    written: &mut [u8],
-    out: &mut [u8],
-) -> usize {
-    match writing::write_from(Reading::Plain, words, values, octets, written) {
-        Written::Octets(n) => {
-            let end = super::text::put_number(out, 0, 0);
-            let at = super::text::put(out, end, b' ');
-            super::ruletext::put_octets(out, at, written, n)
-        }
-        Written::Refused(fault) => super::text::put_fault(out, 0, fault),
-    }
-}
-
-// The rule that a line's text names, by value: none where its words are no record.
-fn rule_in(line: &[u8], from: usize) -> FlowSpecNlri {
-    let mut words = [0u64; 64];
-    let mut values = [0u64; 2100];
-    let mut octets = [0u8; 2100];
-    super::ruletext::read_rule(line, from, &mut words, &mut values, &mut octets);
-    let read = nlri::rule_at(&words, 0);
-    read.rule
-}
-
 fn kind(line: &[u8], out: &mut [u8]) -> usize {
-    let rule = rule_in(line, 5);
-    let component = rule.component(0);
+    let component = super::ruletext::shape_at(line, 5);
     put_kind(out, component)
 }
 
@@ -165,59 +126,59 @@ fn put_kind(out: &mut [u8], component: FlowSpecComponent) -> usize {
 }
 
 fn family(line: &[u8], out: &mut [u8]) -> usize {
-    let rule = rule_in(line, 7);
-    let four = rule.is_ipv4();
-    let six = rule.is_ipv6();
-    let mut at = super::text::put_number(out, 0, 0);
-    at = super::text::put_flag(out, at, four);
-    super::text::put_flag(out, at, six)
+    let rule = super::ruletext::shapes_at(line, 7);
+    let at = super::text::put_number(out, 0, 0);
+    let next = super::text::put_flag(out, at, rule.is_ipv4());
+    super::text::put_flag(out, next, rule.is_ipv6())
 }
+
+// The calls by the first eight letters of their names.
+const NUMERIC: u64 = 0x6E756D65726963;
+
+const BITMASK: u64 = 0x6269746D61736B;
+
+const NUMERIC_RECORD: u64 = 0x6E756D657269635F;
+
+const BITMASK_RECORD: u64 = 0x6269746D61736B5F;
+
+const PARSE: u64 = 0x7061727365;
+
+const KIND: u64 = 0x6B696E64;
+
+const FAMILY: u64 = 0x66616D696C79;
+
+const EQUAL_TO: u64 = 0x657175616C5F746F;
+
+const GREATER_THAN_OR_EQUAL: u64 = 0x677265617465725F;
+
+const EXACT_MATCH: u64 = 0x65786163745F6D61;
+
+const PARTIAL_MATCH: u64 = 0x7061727469616C5F;
 
 // The proved code's answer to a line's request; nothing for a call that it does not know.
 fn answer(line: &[u8], out: &mut [u8]) -> usize {
-    if super::text::is(line, b"numeric") {
-        return numeric(line, out);
+    let name = super::text::name(line);
+    match name {
+        NUMERIC => numeric(line, out),
+        BITMASK => bitmask(line, out),
+        NUMERIC_RECORD => numeric_record(line, out),
+        BITMASK_RECORD => bitmask_record(line, out),
+        PARSE => parse(line, out),
+        KIND => kind(line, out),
+        FAMILY => family(line, out),
+        _ => constructed(name, super::text::number(line, 1), out),
     }
-    if super::text::is(line, b"bitmask") {
-        return bitmask(line, out);
-    }
-    if super::text::is(line, b"numeric_record") {
-        return numeric_record(line, out);
-    }
-    if super::text::is(line, b"bitmask_record") {
-        return bitmask_record(line, out);
-    }
-    if super::text::is(line, b"parse") {
-        return parse(line, out);
-    }
-    if super::text::is(line, b"encode") {
-        return encode(line, out);
-    }
-    if super::text::is(line, b"kind") {
-        return kind(line, out);
-    }
-    if super::text::is(line, b"family") {
-        return family(line, out);
-    }
-    constructed(line, out)
 }
 
 // The answers of the constructors.
-fn constructed(line: &[u8], out: &mut [u8]) -> usize {
-    let value = super::text::number(line, 1);
-    if super::text::is(line, b"equal_to") {
-        return put_numeric(out, NumericOperator::equal_to(value));
+fn constructed(name: u64, value: u64, out: &mut [u8]) -> usize {
+    match name {
+        EQUAL_TO => put_numeric(out, NumericOperator::equal_to(value)),
+        GREATER_THAN_OR_EQUAL => put_numeric(out, NumericOperator::greater_than_or_equal(value)),
+        EXACT_MATCH => put_bitmask(out, BitmaskOperator::exact_match(value)),
+        PARTIAL_MATCH => put_bitmask(out, BitmaskOperator::partial_match(value)),
+        _ => 0,
     }
-    if super::text::is(line, b"greater_than_or_equal") {
-        return put_numeric(out, NumericOperator::greater_than_or_equal(value));
-    }
-    if super::text::is(line, b"exact_match") {
-        return put_bitmask(out, BitmaskOperator::exact_match(value));
-    }
-    if super::text::is(line, b"partial_match") {
-        return put_bitmask(out, BitmaskOperator::partial_match(value));
-    }
-    0
 }
 
 // Whether a line's answer is that of the proved code.

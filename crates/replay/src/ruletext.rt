@@ -1,12 +1,16 @@
-// The text of a rule, as `oracle --help` (rust/oracle) has it, to the words and the operator lists of a stored rule and back: `-` for no
-// components, else components joined by `;`, as `1:4/24/C0000200` or `5:03=80,45=90`; and the rule that a text of octets is read to. Every
-// function takes any octets: what can't be read gives some rule, and what has no room is not written, so that such a line differs.
+// The text of octets, and of the rule that they are read to, as `oracle --help` (rust/oracle) has it: `-` for no components, else components
+// joined by `;`, as `1:4/24/C0000200` or `5:03=80,45=90`. Every function takes any octets: what has no room is not written, so that such a line
+// differs.
 use super::text::put;
 use choices::Reading;
 use reading::ReadInto;
 use refusals::Fault;
 use refusals::FlowSpecError;
+use rules::FlowSpecComponent;
+use rules::FlowSpecNlri;
 use rules::NetworkPrefix;
+use rules::Slot;
+use rules::Span;
 use stored::Piece;
 
 // A number that was read, and the place after it.
@@ -17,16 +21,6 @@ pub struct Taken {
 
 fn octet_at(s: &[u8], at: usize) -> u8 {
     if at < s.len() { s[at] } else { b' ' }
-}
-
-// A place further, where the text has this octet.
-fn past(s: &[u8], at: usize, octet: u8) -> usize {
-    if at < s.len() {
-        if s[at] == octet {
-            return at + 1;
-        }
-    }
-    at
 }
 
 // The decimal number at a place.
@@ -79,7 +73,7 @@ fn hex(s: &[u8], from: usize, digits: u8) -> Taken {
 }
 
 // The octets of a text of hex pairs, up to the first that stands in none; `-` for none. Answers how many.
-fn read_octets(s: &[u8], from: usize, out: &mut [u8]) -> usize {
+pub fn read_octets(s: &[u8], from: usize, out: &mut [u8]) -> usize {
     let mut at = from;
     let mut n: usize = 0;
     let mut turns = s.len();
@@ -96,21 +90,8 @@ fn read_octets(s: &[u8], from: usize, out: &mut [u8]) -> usize {
     n
 }
 
-// The NLRI at a place of a line, by the plain reading.
-pub fn read_nlri(
-    line: &[u8],
-    from: usize,
-    words: &mut [u64],
-    values: &mut [u64],
-    octets: &mut [u8],
-) -> ReadInto {
-    let mut input = [0u8; 5000];
-    let n = read_octets(line, from, &mut input);
-    read_front(&input, n, words, values, octets)
-}
-
-// What is in the first octets.
-fn read_front(
+// What is in the first octets, by the plain reading.
+pub fn read_front(
     input: &[u8],
     n: usize,
     words: &mut [u64],
@@ -125,214 +106,71 @@ fn read_front(
     reading::read_into(Reading::Plain, &input[..n], words, values, octets)
 }
 
-// What stands between a prefix's family digit and its address.
-pub struct Front {
-    pub has_offset: bool,
-    pub offset: u8,
-    pub length: u8,
-    pub next: usize,
+// A place further, where there is one.
+fn past(s: &[u8], at: usize) -> usize {
+    if at < s.len() { at + 1 } else { at }
 }
 
-fn front_at(s: &[u8], at: usize) -> Front {
-    let has_offset = octet_at(s, at) == b'o';
-    let first = decimal(s, past(s, past(s, at, b'o'), b'/'));
-    if has_offset {
-        let length = decimal(s, past(s, first.next, b'/'));
-        return Front {
-            has_offset: true,
-            offset: (first.value % 256) as u8,
-            length: (length.value % 256) as u8,
-            next: past(s, length.next, b'/'),
-        };
-    }
-    Front {
-        has_offset: false,
-        offset: 0,
-        length: (first.value % 256) as u8,
-        next: past(s, first.next, b'/'),
-    }
-}
-
-pub struct PrefixRead {
-    pub prefix: NetworkPrefix,
-    pub next: usize,
-}
-
-fn ipv4_at(s: &[u8], front: Front) -> PrefixRead {
-    let address = hex(s, front.next, 8);
-    if front.has_offset {
-        return PrefixRead {
-            prefix: NetworkPrefix::Ipv4Offset {
-                length: front.length,
-                offset: front.offset,
-                address: (address.value % 4294967296) as u32,
-            },
-            next: address.next,
-        };
-    }
-    PrefixRead {
-        prefix: NetworkPrefix::Ipv4 {
-            length: front.length,
-            address: (address.value % 4294967296) as u32,
-        },
-        next: address.next,
-    }
-}
-
-fn ipv6_at(s: &[u8], front: Front) -> PrefixRead {
-    let high = hex(s, front.next, 16);
-    let low = hex(s, high.next, 16);
-    if front.has_offset {
-        return PrefixRead {
-            prefix: NetworkPrefix::Ipv6Offset {
-                length: front.length,
-                offset: front.offset,
-                high: high.value,
-                low: low.value,
-            },
-            next: low.next,
-        };
-    }
-    PrefixRead {
-        prefix: NetworkPrefix::Ipv6 {
-            length: front.length,
-            high: high.value,
-            low: low.value,
-        },
-        next: low.next,
-    }
-}
-
-// A prefix, from its family digit on.
-fn prefix_at(s: &[u8], at: usize) -> PrefixRead {
+// A prefix of the form whose family digit stands at a place, of no length.
+fn form_at(s: &[u8], at: usize) -> NetworkPrefix {
+    let has_offset = octet_at(s, past(s, at)) == b'o';
     if octet_at(s, at) == b'6' {
-        return ipv6_at(s, front_at(s, past(s, at, b'6')));
-    }
-    ipv4_at(s, front_at(s, past(s, at, b'4')))
-}
-
-fn store(values: &mut [u64], place: usize, value: u64) {
-    if place < values.len() {
-        values[place] = value;
-    }
-}
-
-// One operator, `OO=VALUE`, to the lists at a place. Answers the place after it and a comma.
-fn read_operator(
-    s: &[u8],
-    from: usize,
-    values: &mut [u64],
-    octets: &mut [u8],
-    place: usize,
-) -> usize {
-    let octet = hex(s, from, 2);
-    let value = decimal(s, past(s, octet.next, b'='));
-    store(values, place, value.value);
-    put(octets, place, (octet.value % 256) as u8);
-    past(s, value.next, b',')
-}
-
-// A place in the text, and how many operators stand before it.
-pub struct Reached {
-    pub at: usize,
-    pub operators: usize,
-}
-
-// The operators up to the component's end, to the lists from a place on. No text has more of them than octets.
-fn read_list(
-    s: &[u8],
-    from: usize,
-    values: &mut [u64],
-    octets: &mut [u8],
-    first: usize,
-) -> Reached {
-    let mut at = from;
-    let mut n: usize = 0;
-    while n < s.len() {
-        if octet_at(s, at) < b'0' {
-            return Reached {
-                at: at,
-                operators: n,
+        if has_offset {
+            return NetworkPrefix::Ipv6Offset {
+                length: 0,
+                offset: 0,
+                high: 0,
+                low: 0,
             };
         }
-        if octet_at(s, at) == b';' {
-            return Reached {
-                at: at,
-                operators: n,
-            };
-        }
-        let place = std::num::wrapping_add_u64(first as u64, n as u64) as usize;
-        at = read_operator(s, at, values, octets, place);
-        n += 1;
-    }
-    Reached {
-        at: at,
-        operators: n,
-    }
-}
-
-// A component, the place after it, and how many operators stand before that.
-pub struct PieceRead {
-    pub piece: Piece,
-    pub next: usize,
-    pub operators: usize,
-}
-
-fn read_piece(
-    s: &[u8],
-    from: usize,
-    values: &mut [u64],
-    octets: &mut [u8],
-    operators: usize,
-) -> PieceRead {
-    let number = decimal(s, from);
-    let tag = (number.value % 256) as u8;
-    let at = past(s, number.next, b':');
-    if tag < 3 {
-        let p = prefix_at(s, at);
-        let prefix = p.prefix;
-        return PieceRead {
-            piece: Piece::Prefix {
-                tag: tag,
-                prefix: prefix,
-            },
-            next: p.next,
-            operators: operators,
+        return NetworkPrefix::Ipv6 {
+            length: 0,
+            high: 0,
+            low: 0,
         };
     }
-    let list = read_list(s, at, values, octets, operators);
-    PieceRead {
-        piece: Piece::Operators {
-            tag: tag,
-            start: operators,
-            count: list.operators,
-        },
-        next: list.at,
-        operators: std::num::wrapping_add_u64(operators as u64, list.operators as u64) as usize,
+    if has_offset {
+        return NetworkPrefix::Ipv4Offset {
+            length: 0,
+            offset: 0,
+            address: 0,
+        };
+    }
+    NetworkPrefix::Ipv4 {
+        length: 0,
+        address: 0,
     }
 }
 
-// A whole rule, to the words and the lists.
-pub fn read_rule(s: &[u8], from: usize, words: &mut [u64], values: &mut [u64], octets: &mut [u8]) {
-    if words.len() < 64 {
-        return;
+// The component at a place of a line, by its type and a prefix's form alone: no kind and no family rests on the rest of its text.
+pub fn shape_at(s: &[u8], at: usize) -> FlowSpecComponent {
+    let number = decimal(s, at);
+    let tag = (number.value % 256) as u8;
+    if tag < 3 {
+        return rules::prefix_of(tag, form_at(s, past(s, number.next)));
     }
+    rules::list_of(tag, Span { start: 0, count: 0 })
+}
+
+// The rule at a place of a line, of such components.
+pub fn shapes_at(s: &[u8], from: usize) -> FlowSpecNlri {
+    let mut slots = [Slot {
+        component: FlowSpecComponent::Nothing,
+    }; 13];
     let mut at = from;
-    let mut operators: usize = 0;
     let mut count: usize = 0;
     while count < 13 {
         if octet_at(s, at) < b'0' {
-            stored::put_tail(words, 0, count, 0, 0);
-            return;
+            return FlowSpecNlri::new(slots, count);
         }
-        let read = read_piece(s, at, values, octets, operators);
-        let piece = read.piece;
-        stored::put_piece(words, 4 * count, piece);
-        operators = read.operators;
-        at = past(s, read.next, b';');
+        let component = shape_at(s, at);
+        slots[count] = Slot {
+            component: component,
+        };
+        at = past(s, super::text::find(s, at, b';'));
         count += 1;
     }
-    stored::put_tail(words, 0, count, 0, 0);
+    FlowSpecNlri::new(slots, count)
 }
 
 // An octet, if it is wanted.
@@ -367,30 +205,12 @@ fn put_hex(out: &mut [u8], at: usize, number: u64, digits: u32) -> usize {
     end
 }
 
-fn wide(octet: u8) -> u64 {
-    octet as u64
-}
-
 // The octet at a place, in two hex digits.
 fn put_octet(out: &mut [u8], at: usize, octets: &[u8], place: usize) -> usize {
     if place < octets.len() {
-        return put_hex(out, at, wide(octets[place]), 2);
+        return put_hex(out, at, super::text::wide(octets[place]), 2);
     }
     at
-}
-
-// Octets in hex, `-` for none.
-pub fn put_octets(out: &mut [u8], at: usize, octets: &[u8], n: usize) -> usize {
-    if n == 0 {
-        return put(out, at, b'-');
-    }
-    let mut end = at;
-    let mut i = 0;
-    while i < n {
-        end = put_octet(out, end, octets, i);
-        i += 1;
-    }
-    end
 }
 
 // A prefix's length, and what stands before and after it.
@@ -400,48 +220,81 @@ fn put_length(out: &mut [u8], at: usize, length: u8) -> usize {
     put(out, end, b'/')
 }
 
-fn put_offset(out: &mut [u8], at: usize, offset: u8) -> usize {
+fn put_offset(out: &mut [u8], at: usize, wanted: bool, offset: u8) -> usize {
+    if !wanted {
+        return at;
+    }
     let sign = put(out, at, b'o');
     let start = put(out, sign, b'/');
     put_decimal(out, start, offset as u64)
 }
 
-fn put_prefix(out: &mut [u8], at: usize, prefix: NetworkPrefix) -> usize {
+// What a prefix's text names; an IPv4 address is `high`.
+pub struct Named {
+    pub digit: u8,
+    pub has_offset: bool,
+    pub offset: u8,
+    pub length: u8,
+    pub high: u64,
+    pub low: u64,
+}
+
+fn named_by(prefix: NetworkPrefix) -> Named {
     match prefix {
-        NetworkPrefix::Ipv4 { length, address } => {
-            let mut end = put(out, at, b'4');
-            end = put_length(out, end, length);
-            put_hex(out, end, address as u64, 8)
-        }
-        NetworkPrefix::Ipv6 { length, high, low } => {
-            let mut end = put(out, at, b'6');
-            end = put_length(out, end, length);
-            end = put_hex(out, end, high, 16);
-            put_hex(out, end, low, 16)
-        }
+        NetworkPrefix::Ipv4 { length, address } => Named {
+            digit: b'4',
+            has_offset: false,
+            offset: 0,
+            length: length,
+            high: address as u64,
+            low: 0,
+        },
+        NetworkPrefix::Ipv6 { length, high, low } => Named {
+            digit: b'6',
+            has_offset: false,
+            offset: 0,
+            length: length,
+            high: high,
+            low: low,
+        },
         NetworkPrefix::Ipv4Offset {
             length,
             offset,
             address,
-        } => {
-            let mut end = put(out, at, b'4');
-            end = put_offset(out, end, offset);
-            end = put_length(out, end, length);
-            put_hex(out, end, address as u64, 8)
-        }
+        } => Named {
+            digit: b'4',
+            has_offset: true,
+            offset: offset,
+            length: length,
+            high: address as u64,
+            low: 0,
+        },
         NetworkPrefix::Ipv6Offset {
             length,
             offset,
             high,
             low,
-        } => {
-            let mut end = put(out, at, b'6');
-            end = put_offset(out, end, offset);
-            end = put_length(out, end, length);
-            end = put_hex(out, end, high, 16);
-            put_hex(out, end, low, 16)
-        }
+        } => Named {
+            digit: b'6',
+            has_offset: true,
+            offset: offset,
+            length: length,
+            high: high,
+            low: low,
+        },
     }
+}
+
+fn put_prefix(out: &mut [u8], at: usize, prefix: NetworkPrefix) -> usize {
+    let p = named_by(prefix);
+    let mut end = put(out, at, p.digit);
+    end = put_offset(out, end, p.has_offset, p.offset);
+    end = put_length(out, end, p.length);
+    if p.digit == b'4' {
+        return put_hex(out, end, p.high, 8);
+    }
+    end = put_hex(out, end, p.high, 16);
+    put_hex(out, end, p.low, 16)
 }
 
 // The operator at a place of the lists.

@@ -31,22 +31,26 @@ pub fn find_sign(s: &[u8]) -> usize {
     s.len()
 }
 
-// Whether a line's first field is this name.
-pub fn is(s: &[u8], name: &[u8]) -> bool {
-    if find(s, 0, b' ') != name.len() {
-        return false;
-    }
+pub fn wide(octet: u8) -> u64 {
+    octet as u64
+}
+
+// The first eight letters of a line's first field, as one number.
+pub fn name(s: &[u8]) -> u64 {
+    let mut v: u64 = 0;
     let mut i = 0;
-    while i < name.len() {
+    while i < 8 {
         if s.len() <= i {
-            return false;
+            return v;
         }
-        if s[i] != name[i] {
-            return false;
+        let octet = s[i];
+        if octet == b' ' {
+            return v;
         }
+        v = v % 0x100_0000_0000_0000 * 256 + wide(octet) % 256;
         i += 1;
     }
-    true
+    v
 }
 
 // The number of a hex digit; 0 for any other octet.

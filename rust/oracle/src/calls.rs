@@ -95,9 +95,17 @@ fn parse(octets: &str) -> Result<String, Bad> {
 }
 
 fn encode(rule: &str) -> Result<String, Bad> {
-    Ok(match encode_flowspec_nlri(&text::rule(rule)?) {
+    Ok(match written(rule)? {
         Ok(octets) => format!("0 {}", text::octets_text(&octets)),
-        Err(EncodingError::ValueTooLarge { actual, .. }) => format!("7 {actual:X}"),
+        Err(length) => format!("7 {length:X}"),
+    })
+}
+
+/// The octets that the original writes for a rule, or the length of a body that is too long for it.
+pub(crate) fn written(rule: &str) -> Result<Result<Vec<u8>, usize>, Bad> {
+    Ok(match encode_flowspec_nlri(&text::rule(rule)?) {
+        Ok(octets) => Ok(octets),
+        Err(EncodingError::ValueTooLarge { actual, .. }) => Err(actual),
         Err(error @ EncodingError::Unencodable { .. }) => {
             unreachable!("FlowSpec encoding has no such error: {error}")
         }

@@ -10,6 +10,7 @@
 pub mod calls;
 pub mod error;
 pub mod models;
+pub mod plain;
 pub mod records;
 pub mod requests;
 pub mod text;

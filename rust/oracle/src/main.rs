@@ -1,6 +1,6 @@
 //! The command line; `help.txt` says what there is.
 
-use oracle::{calls, requests};
+use oracle::{calls, plain, requests};
 use std::io::{self, BufWriter, ErrorKind, Write};
 use std::process::ExitCode;
 
@@ -16,6 +16,7 @@ fn main() -> ExitCode {
             Some(list) => print(&list, &mut output),
             None => return usage(&format!("no part {name}; there is {}", requests::names())),
         },
+        ["plain-answers"] => print(&plain::answers(), &mut output),
         ["--help"] => write!(output, "{}", help()).and_then(|()| output.flush()),
         _ => return usage("try oracle --help"),
     };
@@ -28,8 +29,8 @@ fn main() -> ExitCode {
 }
 
 fn print(list: &[String], output: &mut impl Write) -> io::Result<()> {
-    for request in list {
-        writeln!(output, "{request}")?;
+    for line in list {
+        writeln!(output, "{line}")?;
     }
     output.flush()
 }

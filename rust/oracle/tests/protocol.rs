@@ -71,10 +71,18 @@ fn what_cannot_be_read_is_answered_bad_and_the_next_line_is_read() {
 }
 
 #[test]
+fn plain_answers_are_one_a_line() {
+    let output = oracle(&["plain-answers"], b"");
+    let lines = String::from_utf8(output.stdout).unwrap();
+    assert_eq!(lines.lines().collect::<Vec<_>>(), oracle::plain::answers());
+    assert!(output.status.success());
+}
+
+#[test]
 fn the_command_line_is_checked() {
     let help = oracle(&["--help"], b"");
     let text = String::from_utf8(help.stdout).unwrap();
-    assert!(help.status.success() && text.contains("operators, readings, writings, all"));
+    assert!(help.status.success() && text.contains("operators, readings, writings, replayed"));
     for arguments in [&[][..], &["requests"], &["requests", "none"], &["other"]] {
         let output = oracle(arguments, b"");
         assert_eq!(output.status.code(), Some(2), "{arguments:?}");

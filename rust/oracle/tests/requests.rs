@@ -47,8 +47,8 @@ fn rules_meet_every_refusal() {
 }
 
 #[test]
-fn rules_stay_within_what_a_replay_holds() {
-    let lines = both();
+fn requests_stay_within_what_a_replay_holds() {
+    let lines = answered("replayed");
     let lengths = lines.iter().map(|(a, b)| a.len() + b.len() + 4);
     assert!(lengths.clone().max().unwrap() < 16_000);
     assert!(lengths.sum::<usize>() < 1_500_000);
@@ -71,11 +71,19 @@ fn rules_stay_within_what_is_compared() {
 
 #[test]
 fn no_request_stands_twice() {
-    for name in ["operators", "readings", "writings", "all"] {
+    for name in ["operators", "readings", "writings", "replayed"] {
         let requests = part(name).unwrap();
         let distinct: HashSet<&String> = requests.iter().collect();
         assert_eq!(distinct.len(), requests.len());
     }
+}
+
+/// The crate `replay` reads no rules to write.
+#[test]
+fn operators_and_readings_are_replayed() {
+    let mut replayed = part("operators").unwrap();
+    replayed.extend(part("readings").unwrap());
+    assert_eq!(part("replayed"), Some(replayed));
 }
 
 #[test]

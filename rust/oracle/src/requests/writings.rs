@@ -10,6 +10,11 @@ use crate::text;
 const VALUE: u64 = 0x0123_4567_89AB_CDEF;
 
 pub fn requests() -> Vec<String> {
+    let rules = rules().into_iter();
+    rules.map(|rule| format!("encode {rule}")).collect()
+}
+
+pub fn rules() -> Vec<String> {
     let mut rules = read_rules();
     rules.extend(prefixes());
     rules.extend(lists());
@@ -17,7 +22,7 @@ pub fn requests() -> Vec<String> {
     rules.extend(orders());
     rules.extend(long_bodies());
     rules.extend(random_rules());
-    rules.iter().map(|rule| format!("encode {rule}")).collect()
+    rules
 }
 
 /// What the fixed inputs of the readings read as.
