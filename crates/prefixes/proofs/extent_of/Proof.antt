@@ -5,10 +5,6 @@ use Rattle.prefixes.proofs.extent_of.Reads as reads
 use Rattle.prefixes.proofs.extent_of.Lts as lts
 use Rattle.prefixes.proofs.octets_of.Reads as octets-of-reads
 
--- src/lib.rt:202:34
--- src/lib.rt:202:24
--- src/lib.rt:202:17
--- src/lib.rt:193:1
 returns : tie.Need-returns
 returns c = rw (c .octets-of .ensures)
 
