@@ -7,4 +7,4 @@ mod readings;
 
 pub use form::{Form, LONGEST_BODY, LONGEST_INPUT};
 pub use random::Random;
-pub use readings::{by_rule, framed, list_of, octets, random, Take, FIXED};
+pub use readings::{by_rule, framed, list_of, octets, random, Take, DOCUMENTED, FIXED};

@@ -6,6 +6,9 @@ use crate::random::Random;
 /// Whoever is handed the inputs, one after another.
 pub type Take<'a> = &'a mut dyn FnMut(&[u8]);
 
+/// So many of `FIXED` are document 01's cases and the RFCs' worked examples.
+pub const DOCUMENTED: usize = 31;
+
 /// Document 01's cases and the RFCs' worked examples (RFC 8955, 4.3; RFC 8956, 3.8), then rules of
 /// several lists, operators and widths, and longer ones.
 pub const FIXED: [&str; 36] = [

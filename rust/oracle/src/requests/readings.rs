@@ -5,46 +5,7 @@ use crate::flowspec::nlri::encode_length;
 use crate::flowspec::{encode_flowspec_nlri, FlowSpecNlri};
 use crate::records;
 use crate::text;
-
-/// The cases of the scope document, in its order, and those it has in words.
-const CASES: [&str; 26] = [
-    "",
-    "F0",
-    "EF",
-    "00",
-    "F0 05 01 18 C0 00 02",
-    "05 01 18 C0 00 02",
-    "02 03 81 06 05",
-    "03 03 89 06",
-    "03 03 81 06",
-    "02 03 89",
-    "01 00",
-    "01 0E",
-    "06 03 81 06 03 81 11",
-    "03 01 04 FF",
-    "02 01 81",
-    "02 01 21",
-    "12 01 80 20 01 0D B8 00 00 00 00 00 00 00 00 00 00 00 01",
-    "04 0D 81 00 0E",
-    "04 01 41 3F C0",
-    "03 01 40 40",
-    "03 01 00 00",
-    "08 05 03 50 45 5A 91 01 BB",
-    "03 09 81 12",
-    "03 09 80 12",
-    "03 01 08 0A",
-    "04 01 10 0A 01",
-];
-
-/// The worked examples of RFC 8955, 4.3, and RFC 8956, 3.8. The plain reading does not know the
-/// offset octet of the last two: it reads 0.32.1.13/32 and refuses B8 as a type.
-const EXAMPLES: [&str; 5] = [
-    "0B 01 18 C0 00 02 03 81 06 04 81 19",
-    "12 01 18 C0 00 02 02 18 CB 00 71 04 03 89 45 8B 91 1F 90",
-    "09 01 20 C0 00 02 01 0C 80 05",
-    "12 01 20 00 20 01 0D B8 02 68 40 12 34 56 78 9A 03 81 06",
-    "0F 01 20 00 20 01 0D B8 02 68 41 24 68 AC F1 34",
-];
+use inputs::{octets, DOCUMENTED, FIXED};
 
 /// Accepted rules of several lists, operators and widths, to be cut and restated like the others;
 /// one octet follows the third.
@@ -55,10 +16,11 @@ const MIXED: [&str; 4] = [
     "10 0B 01 0A 81 2E 0C 01 01 82 02 0D A1 00 0F FF FF",
 ];
 
-/// The octets that are written out above.
+/// Document 01's cases and the RFCs' worked examples, then those above. The plain reading does not
+/// know the offset octet of the last two examples: it reads 0.32.1.13/32 and refuses B8 as a type.
 pub fn fixed() -> Vec<Vec<u8>> {
-    let texts = CASES.iter().chain(&EXAMPLES).chain(&MIXED);
-    texts.map(|text| hex(text)).collect()
+    let texts = FIXED[..DOCUMENTED].iter().chain(&MIXED);
+    texts.map(|text| octets(text)).collect()
 }
 
 pub fn requests() -> Vec<String> {
@@ -154,7 +116,7 @@ fn operator_octets() -> Vec<Vec<u8>> {
 
 /// Length fields by themselves, and both forms of them before a short body.
 fn lengths() -> Vec<Vec<u8>> {
-    let body = hex("01 18 C0 00 02");
+    let body = octets("01 18 C0 00 02");
     let mut inputs: Vec<Vec<u8>> = [0x01, 0x02, 0x7F, 0xEE, 0xEF]
         .map(|length| vec![length])
         .to_vec();
@@ -279,11 +241,4 @@ fn stated(length: usize, body: &[u8]) -> Vec<u8> {
 
 fn written(rule: &FlowSpecNlri) -> Vec<u8> {
     encode_flowspec_nlri(rule).expect("the lists' rules fit")
-}
-
-fn hex(text: &str) -> Vec<u8> {
-    match text.replace(' ', "").as_str() {
-        "" => Vec::new(),
-        digits => text::octets(digits).expect("the lists' octets are hex"),
-    }
 }
