@@ -4,10 +4,11 @@
 // The functions with a `requires` are no entry points: they serve loops that have tested what is asked.
 ghost use mathlib.Core.Path.{_≡_};
 ghost use mathlib.Core.List.{_∷_, []};
-ghost use Prim.Native.Nat.{_+_, _-_, _*_, _%_, _≤_};
+ghost use Prim.Native.Nat.{_+_, _-_, _*_, _%_, _≤_, _<_};
 ghost use lib.ListN.{length, replicate};
 ghost use lib.Seq.{sets};
 ghost use Rattle.stored.specs.Pieces.{prefixQuad, quadOf, pieceWords, networkOf, sameQuad, quadAt, pieceOf, pieceAt, isRecord};
+ghost use Rattle.stored.specs.Views.{Shows};
 ghost use Rattle.stored.specs.Stored.{head, tailWords, countAt, familyAt, firstAt, recordsFrom, zerosFrom, isFramed, isRule};
 use rules::NetworkPrefix;
 
@@ -213,6 +214,121 @@ pub fn piece_at(words: &[u64], at: usize) -> Piece
         return prefix_at(tag, q);
     }
     list_in(tag, q)
+}
+
+// What the words of a component show at a glance. Form 1 is a list, 2 a prefix of IPv4, 3 a prefix of IPv6 with an offset; 0 is whatever is none of
+// these, of which `piece_at` tells more. What a form does not have is 0. Fields share no place as an enum's do, so that a view stays in registers.
+pub struct View {
+    pub form: u8,
+    pub tag: u8,
+    pub start: usize,
+    pub count: usize,
+    pub length: u8,
+    pub offset: u8,
+    pub address: u32,
+    pub high: u64,
+    pub low: u64,
+}
+
+fn no_view() -> View
+    ensures { λ r. ⌜ r .form ≡ 0 ⌝ }
+{
+    View {
+        form: 0,
+        tag: 0,
+        start: 0,
+        count: 0,
+        length: 0,
+        offset: 0,
+        address: 0,
+        high: 0,
+        low: 0,
+    }
+}
+
+fn view_list(q: Quad) -> View
+    requires { ⌜ (3 ≤ q .mark) × (q .mark < 14) ⌝ }
+    ensures { λ r. ⌜ Shows r (pieceOf q) ⌝ }
+{
+    if q.c == 0 {
+        return View {
+            form: 1,
+            tag: q.mark as u8,
+            start: q.a as usize,
+            count: q.b as usize,
+            length: 0,
+            offset: 0,
+            address: 0,
+            high: 0,
+            low: 0,
+        };
+    }
+    no_view()
+}
+
+fn view_ipv4(q: Quad) -> View
+    requires { ⌜ q .mark < 3 ⌝ }
+    ensures { λ r. ⌜ Shows r (pieceOf q) ⌝ }
+{
+    if 0 < q.mark {
+        if q.c == 0 {
+            if q.a <= 255 {
+                if q.b <= 4294967295 {
+                    return View {
+                        form: 2,
+                        tag: q.mark as u8,
+                        start: 0,
+                        count: 0,
+                        length: q.a as u8,
+                        offset: 0,
+                        address: q.b as u32,
+                        high: 0,
+                        low: 0,
+                    };
+                }
+            }
+        }
+    }
+    no_view()
+}
+
+fn view_ipv6(q: Quad) -> View
+    requires { ⌜ 14 ≤ q .mark ⌝ }
+    ensures { λ r. ⌜ Shows r (pieceOf q) ⌝ }
+{
+    if 48 < q.mark {
+        if q.mark < 51 {
+            if q.a <= 65535 {
+                return View {
+                    form: 3,
+                    tag: (q.mark - 48) as u8,
+                    start: 0,
+                    count: 0,
+                    length: (q.a % 256) as u8,
+                    offset: (q.a / 256) as u8,
+                    address: 0,
+                    high: q.b,
+                    low: q.c,
+                };
+            }
+        }
+    }
+    no_view()
+}
+
+// The view of the component at a word. No entry point.
+pub fn view_at(words: &[u64], at: usize) -> View
+    requires { ⌜ at + 4 ≤ length (now words) ⌝ }
+    ensures { λ r. ⌜ Shows r (pieceAt (now (words .entry)) at) ⌝ }
+{
+    let q = quad_at(words, at);
+    if q.mark < 3 {
+        return view_ipv4(q);
+    }
+    if q.mark < 14 {
+        return view_list(q);
+    }
+    view_ipv6(q)
 }
 
 fn is_record(piece: Piece) -> bool
