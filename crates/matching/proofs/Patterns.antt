@@ -48,6 +48,14 @@ module _ (width offset len a b z d k u : ℕ) (x : Wide) where
       rw (ex, num-wideOf (z / 2 ^ d * 2 ^ u % 2 ^ 128), eu, ← ed, ← ek, front (z / 2 ^ d) k (lt-of-le-of-lt (div-le-self z (2 ^ d)) (rw ez (xor-lt 128 a b ha hb))), ez, xor-shr a b d, xor-mod (a / 2 ^ d) (b / 2 ^ d) k)
       (none-differ (a / 2 ^ d % 2 ^ k) (b / 2 ^ d % 2 ^ k) (128 - k))
 
+-- what is left of the first bits of 128, d down
+pub by-front : (len a b z d : ℕ) (x : Wide) → a < 2 ^ 128 → b < 2 ^ 128 → z ≡ bitXor a b → d ≡ 128 - len → x ≡ wideOf (z / 2 ^ d) → eqb (num x) 0 ≡ sameBits 128 0 len a b
+by-front len a b z d x ha hb ez ed ex =
+    let m : 2 ^ 128 ≤ 2 ^ (len + d) = pow-mono {i = 128} {j = len + d} (omega (arith, ed)) in
+    let o : len - 0 ≡ len = omega arith in
+    rw (ex, num-wideOf (z / 2 ^ d), o, ← ed, ez, xor-shr a b d, shr-mod len d (lt-of-lt-of-le ha m), shr-mod len d (lt-of-lt-of-le hb m))
+    (eqb-iff _ _ _ _ (xor-zero (a / 2 ^ d) (b / 2 ^ d)) (λ e. rw e (xor-self (b / 2 ^ d))))
+
 -- an IPv4 prefix no longer than its address: the first bits of 32
 pub by-shifts : (len x h l : ℕ) → len ≤ 32 → x < 2 ^ 32 → eqb (x / 2 ^ (32 - len)) (l % 2 ^ 32 / 2 ^ (32 - len)) ≡ sameBits 32 0 len x (wide h l)
 by-shifts len x h l k b =

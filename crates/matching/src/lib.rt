@@ -80,10 +80,15 @@ pub fn ipv4_matches(length: u8, address: u32, a: Wide) -> bool
     (address as u64) >> down == (a.low % 4294967296) >> down
 }
 
-// An IPv6 prefix from bit offset on.
+// An IPv6 prefix from bit offset on. Nearly all have none, and then one shift tells.
 pub fn ipv6_matches(offset: u8, length: u8, address: Wide, a: Wide) -> bool
     ensures { λ r. ⌜ r ≡ sameBits 128 offset length (num address) (num a) ⌝ }
 {
+    if offset == 0 {
+        let down = less(128, length) as u32;
+        let left = wide::shr(apart(address, a), down);
+        return wide::same(left, Wide { high: 0, low: 0 });
+    }
     same_bits(128, offset, length, address, a)
 }
 
