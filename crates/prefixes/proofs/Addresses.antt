@@ -1,5 +1,5 @@
 -- Addresses from the number that a prefix's octets spell: they fit, and moving the halves moves the number.
-use mathlib.Core.Path.{_≡_, sym, ap, ap₂, _∙_, subst}
+use mathlib.Core.Path.{_≡_, sym, ap, _∙_, subst}
 use mathlib.Core.List.{List}
 use mathlib.Core.Bool.{Bool, _&&_, and-true}
 use Prim.Native.Nat.{ℕ, _+_, _-_, _*_, _/_, _%_, _^_, _≤_, _<_}
@@ -8,13 +8,15 @@ use native.Mathlib.Omega.{arith}
 use lib.Dec.{eqb}
 use lib.ListN.{take, drop}
 use lib.Pow.{pow-mono, shr-lt, shl-lt}
-use borrow.Author.Tests.{eq-eqb}
-use Rattle.wide.specs.Numbers.{wide, num, wideOf}
+use borrow.Author.Tests.{eq-eqb, le-leb, lt-leb}
+use Rattle.wide.specs.Numbers.{num, wideOf}
 use Rattle.wide.specs.declared.Wide.{Wide}
 use Rattle.wide.proofs.Halves.{num-wideOf}
 use Rattle.octets.specs.Addresses.{firstBits}
 use Rattle.octets.specs.Spell.{valueOf}
-use Rattle.prefixes.specs.Prefixes.{octetsOf, frontAddress, offsetAddress}
+use Rattle.rules.specs.declared.NetworkPrefix.the-variants.{Ipv4 as V4}
+use Rattle.prefixes.specs.declared.Extent.{Extent}
+use Rattle.prefixes.specs.Prefixes.{octetsOf, frontAddress, offsetAddress, ipv6, plainPrefix, spelledAt}
 use Rattle.prefixes.specs.Forms.{clean}
 
 pub front-lt : (width len v : ℕ) → 8 * octetsOf len ≤ width → v < 2 ^ (8 * octetsOf len) → frontAddress width len v < 2 ^ width
@@ -31,24 +33,12 @@ offset-lt len off v p q b =
     let f : n + (128 - len) ≡ 128 - off = omega arith in
     subst (λ (j : ℕ). offsetAddress len off v < 2 ^ j) f (shl-lt n (128 - len) (shr-lt n (k - n) (subst (λ (j : ℕ). v < 2 ^ j) (sym e) b)))
 
--- the octets of an IPv4 address stand in the lower half, and moved up to their place they stay below 2 ^ 32
-module _ (h l len k : ℕ) (p : len ≤ 32) (e : k ≡ octetsOf len) (b : wide h l < 2 ^ (8 * octetsOf len)) where
-  front-word : (l * 2 ^ (32 - 8 * k) ≡ frontAddress 32 len (wide h l)) × (l * 2 ^ (32 - 8 * k) < 2 ^ 32)
-  front-word =
-      let m : 8 * octetsOf len ≤ 32 = omega arith in
-      let q : wide h l < 2 ^ 32 = lt-of-lt-of-le b (pow-mono m) in
-      let r : l ≡ wide h l = omega arith in
-      let s = ap₂ (λ (x j : ℕ). x * 2 ^ (32 - 8 * j)) r e in
-      (s, subst (λ (n : ℕ). n < 2 ^ 32) (sym s) (front-lt 32 len (wide h l) m b))
+-- up to 32 bits the plain prefix is IPv4, above IPv6
+pub plain-short : (len v : ℕ) → len ≤ 32 → V4 len (frontAddress 32 len v) ≡ plainPrefix len v
+plain-short len v h = simp (le-leb len 32 h)
 
-  uncut : l * 2 ^ (32 - 8 * k) % 2 ^ 64 ≡ l * 2 ^ (32 - 8 * k)
-  uncut = let q = front-word .1 in mod-eq-of-lt (omega arith)
-
-  pub front-ipv4 : l * 2 ^ (32 - 8 * k) % 2 ^ 64 ≡ frontAddress 32 len (wide h l)
-  front-ipv4 = uncut ∙ front-word .0
-
-  pub front-ipv4-lt : l * 2 ^ (32 - 8 * k) % 2 ^ 64 < 2 ^ 32
-  front-ipv4-lt = subst (λ (n : ℕ). n < 2 ^ 32) (sym uncut) (front-word .1)
+pub plain-long : (len v : ℕ) → 32 < len → ipv6 len (frontAddress 128 len v) ≡ plainPrefix len v
+plain-long len v h = simp (lt-leb len 32 h)
 
 -- no cut at 128 digits shows
 module _ (v w : Wide) (len k : ℕ) (q : len ≤ 128) where
@@ -78,6 +68,12 @@ none-before width len a b =
 -- a test of what was kept in halves
 pub kept-test : (v w : Wide) (n b : ℕ) → v ≡ wideOf (firstBits 128 n (num w)) → eqb (num v) b ≡ eqb (firstBits 128 n (num w)) b
 kept-test v w n b e = ap (λ (x : ℕ). eqb x b) (ap num e ∙ num-wideOf (firstBits 128 n (num w)))
+
+-- the number that the octets of an extent with no offset spell
+pub flat-spelled : (s : List ℕ) (e : Extent) → e .offset ≡ 0 → valueOf (take (octetsOf (e .length)) (drop (e .from) s)) ≡ spelledAt s e
+flat-spelled s e z =
+    let n : e .length ≡ e .length - e .offset = omega arith in
+    ap (λ (j : ℕ). valueOf (take (octetsOf j) (drop (e .from) s))) n
 
 -- the number that octets spell, in halves, and its bound
 module _ (s : List ℕ) (from k K : ℕ) (e : k ≡ K) (w : Wide) (i : w ≡ wideOf (valueOf (take k (drop from s)))) where

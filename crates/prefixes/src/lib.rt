@@ -1,15 +1,17 @@
 // Prefixes: where one stands by each reading, the prefix that its octets make, and which prefixes each writing takes. In the Rust it is
 // nlri.rs, parse_prefix_component; the standard readings and the tests before a writing are added.
 //
-// A prefix's octets are read as one number, which is then moved to its place in the address. The functions with a `requires` are no
-// entry points.
+// The octets of an IPv4 prefix are the first of its address. Those of an IPv6 prefix are read as one number, which is then moved to its place
+// in the address. The functions with a `requires` are no entry points.
 ghost use mathlib.Core.Path.{_≡_};
 ghost use mathlib.Core.Bool.{true};
 ghost use Prim.Native.Nat.{_+_, _-_, _*_, _^_, _<_, _≤_};
-ghost use lib.ListN.{length};
+ghost use lib.ListN.{length, take, drop};
 ghost use Rattle.ground.specs.Answers.{accepts};
-ghost use Rattle.wide.specs.Numbers.{num, wideOf};
-ghost use Rattle.prefixes.specs.Prefixes.{octetsOf, offsetFits, extentOf, octetsAt, extentAt, toldExtent, frontAddress, plainPrefix, ipv4Prefix, ipv6Prefix, prefixFrom, prefixAt, toldPrefix, isExtent, Stands};
+ghost use Rattle.wide.specs.Numbers.{num};
+ghost use Rattle.octets.specs.Spell.{valueOf};
+ghost use Rattle.rules.specs.declared.NetworkPrefix.the-variants.{Ipv6Offset};
+ghost use Rattle.prefixes.specs.Prefixes.{octetsOf, offsetFits, extentOf, octetsAt, extentAt, toldExtent, frontAddress, ipv6, ipv6Prefix, prefixFrom, prefixAt, toldPrefix, isExtent, Stands};
 ghost use Rattle.prefixes.specs.Forms.{inRange, clean, validIn};
 use choices::Reading;
 use octets::Cursor;
@@ -151,50 +153,25 @@ fn extent_in(reading: Reading, s: &[u8], c: Cursor) -> Extent
     }
 }
 
-// The address whose first octets, as many as hold len bits, spell v.
-fn front_ipv4(len: u8, v: Wide) -> u32
-    requires { ⌜ (len ≤ 32) × (num v < 2 ^ (8 * octetsOf len)) ⌝ }
-    ensures { λ r. ⌜ r ≡ frontAddress 32 len (num v) ⌝ }
+// The IPv4 address whose first octets, as many as hold len bits, stand at a place.
+fn front_ipv4(s: &[u8], from: usize, len: u8) -> u32
+    requires { ⌜ (len ≤ 32) × (from + octetsOf len ≤ length (now s)) ⌝ }
+    ensures { λ r. ⌜ r ≡ frontAddress 32 len (valueOf (take (octetsOf len) (drop from (now (s .entry))))) ⌝ }
 {
-    let bits = 8 * octets_of(len);
-    (v.low << (32 - bits)) as u32
+    octets::front_four(s, from, octets_of(len))
 }
 
-fn front_ipv6(len: u8, v: Wide) -> Wide
-    requires { ⌜ (len ≤ 128) × (num v < 2 ^ (8 * octetsOf len)) ⌝ }
-    ensures { λ r. ⌜ r ≡ wideOf (frontAddress 128 len (num v)) ⌝ }
-{
-    let bits = 8 * octets_of(len) as u32;
-    wide::shl(v, 128 - bits)
-}
-
-// The prefix of each reading, of a length and the number that its octets spell.
+// The IPv6 prefix of each reading that has one, of a length and the number that its octets spell.
 fn plain_of(len: u8, v: Wide) -> NetworkPrefix
     requires { ⌜ (len ≤ 128) × (num v < 2 ^ (8 * octetsOf len)) ⌝ }
-    ensures { λ r. ⌜ r ≡ plainPrefix len (num v) ⌝ }
+    ensures { λ r. ⌜ r ≡ ipv6 len (frontAddress 128 len (num v)) ⌝ }
 {
-    if len <= 32 {
-        NetworkPrefix::Ipv4 {
-            length: len,
-            address: front_ipv4(len, v),
-        }
-    } else {
-        let w = front_ipv6(len, v);
-        NetworkPrefix::Ipv6 {
-            length: len,
-            high: w.high,
-            low: w.low,
-        }
-    }
-}
-
-fn ipv4_of(len: u8, v: Wide) -> NetworkPrefix
-    requires { ⌜ (len ≤ 32) × (num v < 2 ^ (8 * octetsOf len)) ⌝ }
-    ensures { λ r. ⌜ r ≡ ipv4Prefix len (num v) ⌝ }
-{
-    NetworkPrefix::Ipv4 {
+    let bits = 8 * octets_of(len) as u32;
+    let w = wide::shl(v, 128 - bits);
+    NetworkPrefix::Ipv6 {
         length: len,
-        address: octets::keep_ipv4(front_ipv4(len, v), len),
+        high: w.high,
+        low: w.low,
     }
 }
 
@@ -222,20 +199,37 @@ impl Extent {
         let len = self.length;
         let off = self.offset;
         let next = self.next;
-        let v = octets::read_pattern(s, self.from, octets_of(len - off));
         match reading {
-            Reading::Plain => PrefixAt {
-                prefix: plain_of(len, v),
-                next: next,
-            },
+            Reading::Plain => {
+                if len <= 32 {
+                    return PrefixAt {
+                        prefix: NetworkPrefix::Ipv4 {
+                            length: len,
+                            address: front_ipv4(s, self.from, len),
+                        },
+                        next: next,
+                    };
+                }
+                let v = octets::read_pattern(s, self.from, octets_of(len));
+                PrefixAt {
+                    prefix: plain_of(len, v),
+                    next: next,
+                }
+            }
             Reading::Ipv4 => PrefixAt {
-                prefix: ipv4_of(len, v),
+                prefix: NetworkPrefix::Ipv4 {
+                    length: len,
+                    address: octets::keep_ipv4(front_ipv4(s, self.from, len), len),
+                },
                 next: next,
             },
-            Reading::Ipv6 => PrefixAt {
-                prefix: ipv6_of(len, off, v),
-                next: next,
-            },
+            Reading::Ipv6 => {
+                let v = octets::read_pattern(s, self.from, octets_of(len - off));
+                PrefixAt {
+                    prefix: ipv6_of(len, off, v),
+                    next: next,
+                }
+            }
         }
     }
 }
@@ -289,6 +283,16 @@ fn clean_ipv6(len: u8, off: u8, w: Wide) -> bool
     }
 }
 
+// Whether the standard writing of IPv6 takes an address with a length and an offset.
+pub fn valid_ipv6(len: u8, off: u8, w: Wide) -> bool
+    ensures { λ r. ⌜ r ≡ validIn 6 (Ipv6Offset len off (w .high) (w .low)) ⌝ }
+{
+    if offset_fits(len, off) {
+        return clean_ipv6(len, off, w);
+    }
+    false
+}
+
 // Whether the standard writing of a family takes a prefix.
 pub fn valid(family: u8, prefix: NetworkPrefix) -> bool
     ensures { λ r. ⌜ r ≡ validIn family prefix ⌝ }
@@ -309,16 +313,14 @@ pub fn valid(family: u8, prefix: NetworkPrefix) -> bool
             low,
         } => {
             if family == 6 {
-                if offset_fits(length, offset) {
-                    return clean_ipv6(
-                        length,
-                        offset,
-                        Wide {
-                            high: high,
-                            low: low,
-                        },
-                    );
-                }
+                return valid_ipv6(
+                    length,
+                    offset,
+                    Wide {
+                        high: high,
+                        low: low,
+                    },
+                );
             }
             false
         }
