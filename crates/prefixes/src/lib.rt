@@ -276,7 +276,11 @@ fn clean_ipv4(len: u8, address: u32) -> bool
 fn clean_ipv6(len: u8, off: u8, w: Wide) -> bool
     ensures { λ r. ⌜ r ≡ clean 128 len off (num w) ⌝ }
 {
-    if wide::same(octets::keep_ipv6(w, len), w) {
+    let within = wide::same(octets::keep_ipv6(w, len), w);
+    if off == 0 {
+        return within;
+    }
+    if within {
         wide::same(octets::keep_ipv6(w, off), Wide { high: 0, low: 0 })
     } else {
         false
