@@ -13,7 +13,7 @@ use Rattle.choices.specs.declared.Reading.{Reading}
 use Rattle.choices.specs.declared.Reading.the-variants.{Plain}
 use Rattle.operators.specs.declared.Kind.{Kind}
 use Rattle.operators.specs.declared.Kind.the-variants.{Numeric, Bitmask}
-use Rattle.choices.specs.Choices.{refusedIn}
+use Rattle.choices.specs.Choices.{refusedIn, firstIn}
 use Rattle.operators.specs.Ops.{kindOf, clearedIn, Op, op, numberOf}
 use Rattle.lists.specs.declared.Tally.{Tally}
 use Rattle.lists.specs.Lists.{opAt, operatorAt, listAt, opsAt, clearedOp, firstOp, recordedOps}
@@ -24,7 +24,7 @@ pub length-cleared : (k : Kind) (os : List Op) → length (map (clearedOp k) os)
 length-cleared k [] = refl
 length-cleared k (o ∷ os) = ap suc (length-cleared k os)
 
-numbers-cleared : (k : Kind) (os : List Op) → map numberOf (map (clearedOp k) os) ≡ map numberOf os
+pub numbers-cleared : (k : Kind) (os : List Op) → map numberOf (map (clearedOp k) os) ≡ map numberOf os
 numbers-cleared k [] = refl
 numbers-cleared k (o ∷ os) = ap (λ (ns : List ℕ). o .value ∷ ns) (numbers-cleared k os)
 
@@ -56,7 +56,7 @@ pub recorded-counts : (r : Reading) (t : ℕ) (s : List ℕ) (at : ℕ) {l : Tal
 recorded-counts r t s at e = recorded-length r t (opsAt s at) ∙ list-counts r t s at e
 
 -- an octet that the plain reading takes has no reserved bit
-pub plain-cleared : (k : Kind) (x : ℕ) → refusedIn Plain k x ≡ false → clearedIn k x ≡ x
+plain-cleared : (k : Kind) (x : ℕ) → refusedIn Plain k x ≡ false → clearedIn k x ≡ x
 unfolding refusedIn
 plain-cleared Numeric x e = let h = eqb-false (x / 8 % 2) 1 e in omega (arith, h)
 plain-cleared Bitmask x e = let h = eqb-true (x / 4 % 4) 0 (not-false (eqb (x / 4 % 4) 0) e) in omega arith
@@ -64,6 +64,10 @@ plain-cleared Bitmask x e = let h = eqb-true (x / 4 % 4) 0 (not-false (eqb (x / 
     not-false : (b : Bool) → not b ≡ false → b ≡ true
     not-false true e = refl
     not-false false e = sym e
+
+-- nor is anything of a first one cleared
+pub plain-kept : (r : Reading) (t x : ℕ) → r ≡ Plain → refusedIn r (kindOf t) x ≡ false → x ≡ firstIn r (clearedIn (kindOf t) x)
+plain-kept r t x e h = rw e (sym (plain-cleared (kindOf t) x (rw e at h)))
 
 -- an operator that it takes is recorded as it stands
 plain-op : (t : ℕ) (s : List ℕ) (at : ℕ) {o : Op} → operatorAt Plain t s at ≡ accepts o → clearedOp (kindOf t) o ≡ o

@@ -1,20 +1,24 @@
--- Laws of the first pass: what is left of a list after n operators goes by the operator there, and an ordinary operator of a run's width is
--- one step.
-use Prim.Native.Nat.{ℕ, _+_, _/_, _%_, _≤_, _<_}
+-- Laws of the first pass: what is left of a list after n operators goes by the operator there, an operator of a run's width is one step, and
+-- an operator alone is the list.
+use Prim.Native.Nat.{ℕ, _+_, _-_, _/_, _%_, _≤_, _<_}
 use mathlib.Core.Path.{_≡_, refl, sym, _∙_, ap}
-use mathlib.Core.Bool.{true, false}
+use mathlib.Core.Bool.{Bool, true, false, false≢true}
 use mathlib.Core.List.{List, [], _∷_}
 use native.Mathlib.Omega.{arith}
+use borrow.Author.Tests.{leb-true, ltb-false, eqb-true, lt-ltb, le-ltb}
 use lib.ListN.{length, getD}
+use lib.Dec.{leb, ltb, eqb}
 use Rattle.ground.specs.Answers.{Answer, accepts, refuses, declines}
-use Rattle.octets.specs.Widths.{widths, widthOf}
+use Rattle.ground.proofs.Cases.{by-test, both}
+use Rattle.octets.specs.Widths.{widths, codeIn, widthOf}
 use Rattle.choices.specs.declared.Reading.{Reading}
 use Rattle.choices.specs.Choices.{refusedIn}
 use Rattle.choices.proofs.Limits.{is-taken}
 use Rattle.operators.specs.Ops.{kindOf}
 use Rattle.lists.specs.declared.Tally.{Tally}
 use Rattle.lists.specs.Lists.{tally, plus, opAt, afterOp, listAt}
-use Rattle.lists.specs.Runs.{rest, Ran}
+use Rattle.lists.specs.declared.Ran.{Ran}
+use Rattle.lists.specs.Runs.{rest, reached, Passed, lone, aloneAt}
 use Rattle.lists.proofs.Operators.{operator-taken}
 use Rattle.lists.proofs.Equations.{list-missing, list-cut, list-refused, list-last, list-more}
 
@@ -59,15 +63,64 @@ module _ (r : Reading) (t : ℕ) (s : List ℕ) (at : ℕ) where
 pub width-by : (x : ℕ) {code w : ℕ} → w ≡ getD widths code 0 → x / 16 % 4 ≡ code → w ≡ widthOf x
 width-by x is-w is-code = is-w ∙ ap (λ (c : ℕ). getD widths c 0) (sym is-code)
 
-module _ {bound : ℕ} {s : List ℕ} {at₀ n₀ at n : ℕ} (h : Ran bound s at₀ n₀ at n) where
-  pub on-more : {w : ℕ} → w ≡ widthOf (getD s at 0) → at + w < length s → getD s at 0 < 128 → getD s at 0 % 16 < bound → Ran bound s at₀ n₀ (at + w + 1) (n + 1)
-  on-more {w} is-w in-s l b =
+abbrev pub ran : ℕ → ℕ → Bool → Ran
+ran count at done = record { count = count; at = at; done = done }
+
+-- a run goes on past an operator of its width
+module _ {bound : ℕ} {s : List ℕ} {at₀ n₀ at n : ℕ} (h : Passed bound s at₀ n₀ (ran n at false))
+    {w : ℕ} (is-w : w ≡ widthOf (getD s at 0)) (in-s : at + w < length s) (b : getD s at 0 % 16 < bound) where
+  next : at + 1 + w ≡ at + w + 1
+  next = omega arith
+
+  step : {done : Bool}
+      → ((r : Reading) (t : ℕ) → refusedIn r (kindOf t) (getD s at 0) ≡ false → rest r t s at n ≡ reached r t s (ran (n + 1) (at + w + 1) done))
+      → Passed bound s at₀ n₀ (ran (n + 1) (at + w + 1) done)
+  step f =
       let p = h .place in
       let o = h .on in
-      let q : at + 1 + w ≡ at + w + 1 = omega arith in
       record {
-        same = λ r t is-bound. h .same r t is-bound ∙ rest-more r t s at n (omega arith) (is-taken r (kindOf t) _ (omega arith)) is-w l ∙ ap (λ (a : ℕ). rest r t s a (n + 1)) q;
+        same = λ r t is-bound. h .same r t is-bound ∙ f r t (is-taken r (kindOf t) _ (omega arith));
         on = omega arith;
         place = omega arith;
         within = omega arith;
       }
+
+  pub on-more : getD s at 0 < 128 → Passed bound s at₀ n₀ (ran (n + 1) (at + w + 1) false)
+  on-more l = step (λ r t e. rest-more r t s at n (omega arith) e is-w l ∙ ap (λ (a : ℕ). rest r t s a (n + 1)) next)
+
+  pub on-last : 128 ≤ getD s at 0 → Passed bound s at₀ n₀ (ran (n + 1) (at + w + 1) true)
+  on-last l = step (λ r t e. rest-last r t s at n (omega arith) e is-w l ∙ ap (λ (a : ℕ). accepts (tally (n + 1) a)) next)
+
+-- an operator alone: it is whole, has the end mark and a value of one octet
+pub lone-is : (x : ℕ) → lone x ≡ true → (128 ≤ x) × (1 ≡ widthOf x)
+lone-is x e =
+    let b = both (leb 128 x) (eqb (codeIn x) 0) e in
+    (leb-true 128 x (b .0), width-by x refl (eqb-true (codeIn x) 0 (b .1)))
+
+pub alone-is : (s : List ℕ) (at : ℕ) → aloneAt s at ≡ true → (at + 1 < length s) × (lone (getD s at 0) ≡ true)
+unfolding aloneAt
+alone-is s at e =
+    by-test (ltb (length s - at) 2)
+    (λ h. absurd (false≢true (rw h at e)))
+    (λ h. (omega (arith, ltb-false (length s - at) 2 h), rw h at e))
+
+pub alone-short : (s : List ℕ) (at : ℕ) → length s - at < 2 → false ≡ aloneAt s at
+unfolding aloneAt
+alone-short s at h = simp (lt-ltb _ _ h)
+
+pub alone-whole : (s : List ℕ) (at : ℕ) → 2 ≤ length s - at → lone (getD s at 0) ≡ aloneAt s at
+unfolding aloneAt
+alone-whole s at h = simp (le-ltb _ _ h)
+
+module _ (r : Reading) (t : ℕ) (s : List ℕ) (at : ℕ) (h : at + 1 < length s) (l : lone (getD s at 0) ≡ true) where
+  within : at + widthOf (getD s at 0) < length s
+  within = omega (arith, lone-is (getD s at 0) l .1)
+
+  pub lone-refused : refusedIn r (kindOf t) (getD s at 0) ≡ true → listAt r t s at ≡ refuses 5 (getD s at 0 ∷ [])
+  lone-refused e = list-refused r t s at within e
+
+  pub lone-done : refusedIn r (kindOf t) (getD s at 0) ≡ false → listAt r t s at ≡ accepts (tally 1 (at + 2))
+  lone-done e =
+      let f = lone-is (getD s at 0) l in
+      let i : at + 1 + widthOf (getD s at 0) ≡ at + 2 = omega (arith, f .1) in
+      list-last r t s at (operator-taken r t s at within e) (f .0) ∙ ap (λ (a : ℕ). accepts (tally 1 a)) i

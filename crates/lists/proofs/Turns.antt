@@ -1,27 +1,29 @@
--- The turns of the fill, over plain lists: one operator stored is one fewer to store.
+-- The turns of the fill, over plain lists: one operator stored is one fewer to store. The first octet is stored again as the reading records
+-- it.
 use Prim.Native.Nat.{ℕ, suc, _+_, _≤_, _<_}
 use mathlib.Core.Path.{_≡_, refl, sym, _∙_, ap, ap₂}
-use mathlib.Core.Bool.{true, false}
+use mathlib.Core.Bool.{true, false, false≢true}
 use mathlib.Core.List.{List, [], _∷_, map}
 use borrow.Author.Tests.{lt-leb}
-use native.Mathlib.Numerals.{add-one}
 use native.Mathlib.Omega.{arith}
 use native.Mathlib.Decide.{decLt}
 use lib.ListN.{length, getD, take, drop, set, length-set}
-use lib.Seq.{sets}
+use lib.Seq.{sets, set-set, set-comm, getD-set-same, getD-set-other}
 use Rattle.ground.specs.Answers.{accepts}
-use Rattle.ground.proofs.Cases.{by-cases}
-use Rattle.octets.specs.Widths.{widthOf}
+use Rattle.ground.proofs.Cases.{by-cases, by-test}
+use Rattle.octets.specs.Widths.{codeIn, widthOf}
 use Rattle.octets.specs.Spell.{valueOf}
 use Rattle.choices.specs.declared.Reading.{Reading}
 use Rattle.operators.specs.declared.Kind.{Kind}
-use Rattle.choices.specs.Choices.{firstIn}
+use Rattle.choices.specs.Choices.{refusedIn, firstIn}
 use Rattle.operators.specs.Ops.{kindOf, clearedIn, Op, op, octetOf, numberOf}
 use Rattle.lists.specs.declared.Tally.{Tally}
-use Rattle.lists.specs.Lists.{tally, listAt, Accepted, opsAt, clearedOp, recordedOps}
-use Rattle.lists.specs.Runs.{Places, marked, ends, left, Filling, Filled}
-use Rattle.lists.proofs.Equations.{with-tally, ops-missing, ops-last, ops-more}
+use Rattle.lists.specs.Lists.{tally, listAt, isAccepted, Accepted, opsAt, clearedOp, recordedOps}
+use Rattle.lists.specs.Runs.{lone, Places, marked, ends, left, Filling, Filled, Stored}
+use Rattle.lists.proofs.Equations.{list-refused, with-tally, ops-missing, ops-last, ops-more}
 use Rattle.lists.proofs.Chains.{list-whole, list-counts}
+use Rattle.lists.proofs.Records.{recorded-numbers, numbers-cleared}
+use Rattle.lists.proofs.Runs.{lone-is, lone-done}
 
 -- where the list that is left is whole, so is the operator there
 pub whole-in : (s : List ℕ) (at : ℕ) → marked (opsAt s at) ≡ true → at + widthOf (getD s at 0) < length s
@@ -51,6 +53,22 @@ filled-on a b =
       on = omega arith;
       within = b .within;
     }
+
+-- and one to the list's end
+pub stored-on : {k : Kind} {s vs₀ os₀ vs₁ os₁ vs os : List ℕ} {start at₀ n₀ at₁ n₁ : ℕ} {l : Tally}
+    → Filled k s start vs₀ os₀ at₀ n₀ vs₁ os₁ at₁ n₁ → Stored k s start vs₁ os₁ at₁ n₁ vs os l → Stored k s start vs₀ os₀ at₀ n₀ vs os l
+stored-on a b =
+    record {
+      list = b .list ∙ sym (a .list);
+      values = b .values ∙ sym (a .values);
+      octets = b .octets ∙ sym (a .octets);
+    }
+
+-- a run that stops at another code has gone on from one of its own
+pub moved : (s : List ℕ) {at i code : ℕ} → at ≤ i → code ≡ codeIn (getD s at 0) → (code ≡ codeIn (getD s i 0) → ⊥) → at < i
+moved s {at} {i} h e f =
+    by-cases (decLt at i) (λ l. l)
+    (λ l. let z : at ≡ i = omega (arith, l) in absurd (f (e ∙ ap (λ (j : ℕ). codeIn (getD s j 0)) z)))
 
 stored : (f : Op → ℕ) (l : List ℕ) (start n : ℕ) {all more : List Op} {o : Op} → all ≡ o ∷ more
     → sets l (start + n) (map f all) ≡ sets (set l (start + n) (f o)) (start + (n + 1)) (map f more)
@@ -121,15 +139,16 @@ module _ {k : Kind} {s : List ℕ} {start : ℕ} {vs₀ os₀ : List ℕ} {at₀
           within = omega arith;
         }
 
-    pub last : 128 ≤ getD s at 0
-        → (set vs (start + n) v ≡ sets vs₀ (start + n₀) (map numberOf (left k s at₀)))
-        × ((set os (start + n) (clearedIn k (getD s at 0)) ≡ sets os₀ (start + n₀) (map octetOf (left k s at₀)))
-        × (tally (n + 1) (at + w + 1) ≡ ends s at₀ n₀))
+    pub last : 128 ≤ getD s at 0 → Stored k s start vs₀ os₀ at₀ n₀ (set vs (start + n) v) (set os (start + n) (clearedIn k (getD s at 0))) (tally (n + 1) (at + w + 1))
     unfolding left
     last l =
         let f = h .filling in
         let q = ap (map (clearedOp k)) (last-op s at (f .whole) is-w is-v l) in
-        (sym (h .values ∙ stored numberOf vs start n q), (sym (h .octets ∙ stored octetOf os start n q), sym (h .list ∙ last-ends s at (f .whole) is-w is-v n l)))
+        record {
+          list = sym (h .list ∙ last-ends s at (f .whole) is-w is-v n l);
+          values = sym (h .values ∙ stored numberOf vs start n q);
+          octets = sym (h .octets ∙ stored octetOf os start n q);
+        }
 
   pub room : (start + n < length vs) × (start + n < length os)
   room =
@@ -137,10 +156,39 @@ module _ {k : Kind} {s : List ℕ} {start : ℕ} {vs₀ os₀ : List ℕ} {at₀
       let z = some-op s at (f .whole) in
       (omega (arith, f .in-values), omega (arith, f .in-octets))
 
--- the first operator of an accepted list
+-- a place before an overlay: what is stored there before or after it, and what stands there
+set-before : (l xs : List ℕ) (i j y : ℕ) → j < i → set (sets l i xs) j y ≡ sets (set l j y) i xs
+set-before l [] i j y h = refl
+set-before l (x ∷ xs) i j y h =
+    set-before (set l i x) xs (suc i) j y (omega arith)
+    ∙ ap (λ (m : List ℕ). sets m (suc i) xs) (set-comm l i j x y (λ e. omega arith))
+
+get-before : (l xs : List ℕ) (i j : ℕ) → j < i → getD (sets l i xs) j 0 ≡ getD l j 0
+get-before l [] i j h = refl
+get-before l (x ∷ xs) i j h = get-before (set l i x) xs (suc i) j (omega arith) ∙ getD-set-other l i j x 0 (λ e. omega arith)
+
+-- the first of an overlay stored again
+set-first : (f : ℕ → ℕ) (l xs : List ℕ) (i x : ℕ) → i < length l → set (sets l i (x ∷ xs)) i (f (getD (sets l i (x ∷ xs)) i 0)) ≡ sets l i (f x ∷ xs)
+set-first f l xs i x h =
+    let g : getD (sets l i (x ∷ xs)) i 0 ≡ x = get-before (set l i x) xs (suc i) i (omega arith) ∙ getD-set-same l i x 0 h in
+    rw g (set-before (set l i x) xs (suc i) i (f x) (omega arith) ∙ ap (λ (m : List ℕ). sets m (suc i) xs) (set-set l i x (f x)))
+
+first-again : (r : Reading) (t : ℕ) (ops : List Op) → 1 ≤ length ops → (l : List ℕ) (i : ℕ) → i < length l
+    → let m = sets l i (map octetOf (map (clearedOp (kindOf t)) ops)) in set m i (firstIn r (getD m i 0)) ≡ sets l i (map octetOf (recordedOps r t ops))
+unfolding recordedOps
+first-again r t [] some l i h = absurd (omega arith)
+first-again r t (o ∷ ops) some l i h = set-first (firstIn r) l (map octetOf (map (clearedOp (kindOf t)) ops)) i (clearedIn (kindOf t) (o .octet)) h
+
+-- an accepted list, from its first operator on
 module _ (r : Reading) (t : ℕ) (s : List ℕ) (at : ℕ) (accepted : Accepted r t s at) where
   pub whole-first : marked (opsAt s at) ≡ true
   whole-first = with-tally (listAt r t s at) accepted (λ l e. list-whole r t s at e .mark)
+
+  pub kept-first : refusedIn r (kindOf t) (getD s at 0) ≡ false
+  kept-first =
+      by-test (refusedIn r (kindOf t) (getD s at 0))
+      (λ e. absurd (false≢true (sym (ap isAccepted (list-refused r t s at (whole-in s at whole-first) e)) ∙ accepted)))
+      (λ e. e)
 
   same-end : listAt r t s at ≡ accepts (ends s at 0)
   unfolding ends
@@ -157,38 +205,35 @@ module _ (r : Reading) (t : ℕ) (s : List ℕ) (at : ℕ) (accepted : Accepted 
         let z = some-op s at whole-first in
         (omega (arith, room₀ .in-values), omega (arith, room₀ .in-octets))
 
-    module _ {k : Kind} {w v x y : ℕ} (is-k : k ≡ kindOf t) (is-w : w ≡ widthOf (getD s at 0)) (is-v : v ≡ valueOf (take (widthOf (getD s at 0)) (drop (at + 1) s))) (is-x : x ≡ clearedIn k (getD s at 0)) (is-y : y ≡ firstIn r x) where
-      first-stored : {more : List Op} → opsAt s at ≡ op (getD s at 0) v ∷ more
-          → (sets vs start (map numberOf (recordedOps r t (opsAt s at))) ≡ sets (set vs start v) (start + 1) (map numberOf (map (clearedOp k) more)))
-          × (sets os start (map octetOf (recordedOps r t (opsAt s at))) ≡ sets (set os start y) (start + 1) (map octetOf (map (clearedOp k) more)))
-      unfolding recordedOps
-      first-stored e = (rw (e, add-one start, is-k), rw (e, add-one start, is-y, is-x, is-k))
+    pub filling-first : Filling s start at 0 (length vs) (length os)
+    filling-first =
+        record {
+          place = omega arith;
+          whole = whole-first;
+          in-values = omega (arith, room₀ .in-values);
+          in-octets = omega (arith, room₀ .in-octets);
+        }
 
-      pub first-last : 128 ≤ getD s at 0
-          → (set vs start v ≡ sets vs start (map numberOf (recordedOps r t (opsAt s at))))
-          × ((set os start y ≡ sets os start (map octetOf (recordedOps r t (opsAt s at))))
-          × (listAt r t s at ≡ accepts (tally 1 (at + w + 1))))
-      first-last l =
-          let q = first-stored (last-op s at whole-first is-w is-v l) in
-          (sym (q .0), (sym (q .1), same-end ∙ ap accepts (last-ends s at whole-first is-w is-v 0 l)))
+    -- an operator alone is stored as it is recorded
+    pub lone-stored : lone (getD s at 0) ≡ true → {v y : ℕ} → v ≡ valueOf (take 1 (drop (at + 1) s)) → y ≡ firstIn r (clearedIn (kindOf t) (getD s at 0))
+        → (set vs start v ≡ sets vs start (map numberOf (recordedOps r t (opsAt s at))))
+        × ((set os start y ≡ sets os start (map octetOf (recordedOps r t (opsAt s at))))
+        × (listAt r t s at ≡ accepts (tally 1 (at + 2))))
+    unfolding recordedOps
+    lone-stored l {v} {y} is-v is-y =
+        let f = lone-is (getD s at 0) l in
+        let e = last-op s at whole-first (f .1) (is-v ∙ ap (λ (w : ℕ). valueOf (take w (drop (at + 1) s))) (f .1)) (f .0) in
+        (rw e, (rw (e, is-y), lone-done r t s at (omega (arith, whole-in s at whole-first, f .1)) l kept-first))
 
-      pub first-filling : getD s at 0 < 128 → Filling s start (at + w + 1) 1 (length (set vs start v)) (length (set os start y))
-      first-filling l =
-          let z = ap length (more-ops s at whole-first is-w is-v l) in
-          record {
-            place = omega arith;
-            whole = more-whole s at whole-first is-w is-v l;
-            in-values = simp length-set (omega (arith, room₀ .in-values));
-            in-octets = simp length-set (omega (arith, room₀ .in-octets));
-          }
-
-      pub first-more : getD s at 0 < 128 → {vs′ os′ : List ℕ} {l : Tally}
-          → vs′ ≡ sets (set vs start v) (start + 1) (map numberOf (left k s (at + w + 1)))
-          → os′ ≡ sets (set os start y) (start + 1) (map octetOf (left k s (at + w + 1)))
-          → l ≡ ends s (at + w + 1) 1
-          → (vs′ ≡ sets vs start (map numberOf (recordedOps r t (opsAt s at))))
-          × ((os′ ≡ sets os start (map octetOf (recordedOps r t (opsAt s at)))) × (listAt r t s at ≡ accepts l))
-      unfolding left
-      first-more l a b c =
-          let q = first-stored (more-ops s at whole-first is-w is-v l) in
-          (a ∙ sym (q .0), (b ∙ sym (q .1), same-end ∙ ap accepts (more-ends s at whole-first is-w is-v 0 l ∙ sym c)))
+    -- a list that is stored to its end, with the first octet stored again
+    pub all-stored : {k : Kind} → k ≡ kindOf t → {vs′ os′ : List ℕ} {l : Tally} {y : ℕ} → Stored k s start vs os at 0 vs′ os′ l → y ≡ firstIn r (getD os′ start 0)
+        → (vs′ ≡ sets vs start (map numberOf (recordedOps r t (opsAt s at))))
+        × ((set os′ start y ≡ sets os start (map octetOf (recordedOps r t (opsAt s at)))) × (listAt r t s at ≡ accepts l))
+    unfolding left
+    all-stored is-k {vs′} {os′} h is-y =
+        let i : start + 0 ≡ start = omega arith in
+        let v : vs′ ≡ sets vs start (map numberOf (map (clearedOp (kindOf t)) (opsAt s at))) = h .values ∙ rw (i, is-k) in
+        let o : os′ ≡ sets os start (map octetOf (map (clearedOp (kindOf t)) (opsAt s at))) = h .octets ∙ rw (i, is-k) in (
+          v ∙ ap (λ (ns : List ℕ). sets vs start ns) (numbers-cleared (kindOf t) (opsAt s at) ∙ sym (recorded-numbers r t (opsAt s at))),
+          (rw (is-y, o) (first-again r t (opsAt s at) (some-op s at whole-first) os start (room-first .1)), same-end ∙ ap accepts (sym (h .list))),
+        )

@@ -1,21 +1,23 @@
 -- What the loops promise each other: where a run stands within its list. No public promise of a reading rests on these but through
 -- `Lists`.
-use Prim.Native.Nat.{ℕ, _+_, _≤_}
+use Prim.Native.Nat.{ℕ, _+_, _-_, _≤_, _<_}
 use mathlib.Core.Path.{_≡_}
-use mathlib.Core.Bool.{Bool, true, false}
+use mathlib.Core.Bool.{Bool, true, false, _&&_}
 use mathlib.Core.List.{List, [], _∷_, map}
-use lib.ListN.{length}
-use lib.Dec.{leb}
+use lib.ListN.{length, getD}
+use lib.Dec.{eqb, leb, ltb}
 use lib.Seq.{sets}
-use Rattle.ground.specs.Answers.{Answer}
+use Rattle.ground.specs.Answers.{Answer, accepts}
 use Rattle.ground.specs.Picks.{pick}
-use Rattle.octets.specs.Widths.{widthOf}
+use Rattle.octets.specs.Widths.{codeIn, widthOf}
 use Rattle.choices.specs.declared.Reading.{Reading}
 use Rattle.operators.specs.declared.Kind.{Kind}
 use Rattle.choices.specs.Choices.{limitOf}
 use Rattle.operators.specs.Ops.{kindOf, Op, octetOf, numberOf}
 use Rattle.lists.specs.declared.Tally.{Tally}
-use Rattle.lists.specs.Lists.{tally, plus, listAt, opsAt, clearedOp}
+use Rattle.lists.specs.declared.Listed.{Listed}
+use Rattle.lists.specs.declared.Ran.{Ran}
+use Rattle.lists.specs.Lists.{tally, toldList, plus, listAt, opsAt, clearedOp}
 
 -- ---- the first pass
 
@@ -28,13 +30,29 @@ pub record Begun (s : List ℕ) (at n : ℕ) : Type 0 where
   pub place : n ≤ at
   pub within : at ≤ length s
 
--- a run from a place to another is so many steps: what is left at the one is what is left at the other, whatever reading and type have
--- the bound that the run took
-pub record Ran (bound : ℕ) (s : List ℕ) (at n at′ n′ : ℕ) : Type 0 where
-  pub same : (reading : Reading) (type : ℕ) → bound ≡ limitOf reading (kindOf type) → rest reading type s at n ≡ rest reading type s at′ n′
-  pub on : at ≤ at′
-  pub place : n′ ≤ at′
-  pub within : at′ ≤ length s
+-- what is left where a run stopped: nothing past the list's last operator
+abbrev pub reached : Reading → ℕ → List ℕ → Ran → Answer Tally
+reached reading type s r = pick (r .done) (accepts (tally (r .count) (r .at))) (rest reading type s (r .at) (r .count))
+
+-- a run from a place on is so many steps: what is left there is what is left where it stopped, whatever reading and type have the bound
+-- that the run took
+pub record Passed (bound : ℕ) (s : List ℕ) (at n : ℕ) (r : Ran) : Type 0 where
+  pub same : (reading : Reading) (type : ℕ) → bound ≡ limitOf reading (kindOf type) → rest reading type s at n ≡ reached reading type s r
+  pub on : at ≤ r .at
+  pub place : r .count ≤ r .at
+  pub within : r .at ≤ length s
+
+-- the octet has the end mark, and its value is one octet
+abbrev pub lone : ℕ → Bool
+lone octet = leb 128 octet && eqb (codeIn octet) 0
+
+-- such an operator is at a place, and whole: it is the list
+unfoldable pub aloneAt : List ℕ → ℕ → Bool
+aloneAt s at = pick (ltb (length s - at) 2) false (lone (getD s at 0))
+
+-- the answer for the list at a place, whatever reading and type have the bound
+abbrev pub Measured : ℕ → List ℕ → ℕ → Listed → Type 0
+Measured bound s at r = (reading : Reading) (type : ℕ) → bound ≡ limitOf reading (kindOf type) → toldList r ≡ listAt reading type s at
 
 -- ---- the second pass: no octet is tested again, so it goes by the operators that stand there, in whatever reading they were accepted
 
@@ -78,3 +96,15 @@ pub record Filled (kind : Kind) (s : List ℕ) (start : ℕ) (vs₀ os₀ : List
   pub long-octets : length os ≡ length os₀
   pub on : at₀ ≤ at
   pub within : at ≤ length s
+
+-- the list at a place is stored to its end, after n₀ operators
+pub record Stored (kind : Kind) (s : List ℕ) (start : ℕ) (vs₀ os₀ : List ℕ) (at₀ n₀ : ℕ) (vs os : List ℕ) (end : Tally) : Type 0 where
+  pub list : end ≡ ends s at₀ n₀
+  pub values : vs ≡ sets vs₀ (start + n₀) (map numberOf (left kind s at₀))
+  pub octets : os ≡ sets os₀ (start + n₀) (map octetOf (left kind s at₀))
+
+-- a run of a fill: it stored the list to its end, or came to a later operator, which has another width
+abbrev pub FilledBy : Kind → List ℕ → ℕ → List ℕ → List ℕ → ℕ → ℕ → List ℕ → List ℕ → Ran → Type 0
+FilledBy kind s start vs₀ os₀ at₀ n₀ vs os r =
+    pick (r .done) (Stored kind s start vs₀ os₀ at₀ n₀ vs os (tally (r .count) (r .at)))
+    (Filled kind s start vs₀ os₀ at₀ n₀ vs os (r .at) (r .count) × (at₀ < r .at))

@@ -1,16 +1,18 @@
 // One list of operators: measured in a reading's first pass, which writes nothing and answers everything, and filled in its second,
-// which tests nothing again. Both go in runs of one width: an inner loop goes on by the same stride over ordinary operators, and whatever
-// else there is takes one general step in the outer loop.
+// which tests nothing again. Both go in runs of one width, by the same stride up to the list's end or to an operator that is none of the
+// run's. A list of one operator whose value is one octet has a step of its own in front.
 ghost use mathlib.Core.Path.{_≡_};
+ghost use mathlib.Core.Bool.{false};
 ghost use mathlib.Core.List.{map};
-ghost use Prim.Native.Nat.{_+_, _<_};
+ghost use Prim.Native.Nat.{_<_};
 ghost use lib.ListN.{length, getD};
 ghost use lib.Seq.{sets};
 ghost use Rattle.ground.specs.Answers.{accepts};
-ghost use Rattle.octets.specs.Widths.{widths};
-ghost use Rattle.operators.specs.Ops.{octetOf, numberOf};
+ghost use Rattle.octets.specs.Widths.{widths, codeIn};
+ghost use Rattle.choices.specs.Choices.{refusedIn, firstIn};
+ghost use Rattle.operators.specs.Ops.{kindOf, clearedIn, octetOf, numberOf};
 ghost use Rattle.lists.specs.Lists.{toldList, listAt, opsAt, recordedOps, Accepted};
-ghost use Rattle.lists.specs.Runs.{Begun, Ran, Places, Filling, Filled, left, ends};
+ghost use Rattle.lists.specs.Runs.{Begun, Passed, aloneAt, Measured, Places, Filling, FilledBy, Stored};
 use choices::Reading;
 use octets::Cursor;
 use operators::Kind;
@@ -28,53 +30,74 @@ pub enum Listed {
     Refused(Fault),
 }
 
-// On over the ordinary operators of one width: those that are whole, not refused and bear no end mark. Stops at the first that is none.
-fn measure_run(s: &[u8], at: usize, n: usize, code: u8, w: usize, bound: u8) -> Tally
+// How far a run went: how many operators were passed and the place after them, and whether the last of them had the end mark.
+pub struct Ran {
+    pub count: usize,
+    pub at: usize,
+    pub done: bool,
+}
+
+// On over the operators of one width that are whole and not refused, up to the list's end or the first that is none.
+fn measure_run(s: &[u8], at: usize, n: usize, code: u8, w: usize, bound: u8) -> Ran
     requires { ⌜ Begun (now s) at n ⌝ }
     requires { ⌜ code < 4 ⌝ }
     requires { ⌜ w ≡ getD widths code 0 ⌝ }
-    ensures { λ r. ⌜ Ran bound (now (s .entry)) at n (r .next .at) (r .count) ⌝ }
+    ensures { λ r. ⌜ Passed bound (now (s .entry)) at n r ⌝ }
 {
     let mut i = at;
     let mut c = n;
     loop {
         let last = i + w;
         if s.len() <= last {
-            return Tally {
+            return Ran {
                 count: c,
-                next: Cursor { at: i },
+                at: i,
+                done: false,
             };
         }
         let octet = s[i];
-        if 128 <= octet {
-            return Tally {
-                count: c,
-                next: Cursor { at: i },
-            };
-        }
         if octet / 16 % 4 != code {
-            return Tally {
+            return Ran {
                 count: c,
-                next: Cursor { at: i },
+                at: i,
+                done: false,
             };
         }
         if bound <= octet % 16 {
-            return Tally {
+            return Ran {
                 count: c,
-                next: Cursor { at: i },
+                at: i,
+                done: false,
             };
         }
         c += 1;
         i = last + 1;
+        if 128 <= octet {
+            return Ran {
+                count: c,
+                at: i,
+                done: true,
+            };
+        }
     }
 }
 
-// The list from the cursor on, in a component of the type `tag`: how many operators it has, and the cursor moved past it.
-pub fn measure(c: Cursor, s: &[u8], reading: Reading, tag: u8) -> Listed
-    ensures { λ r. ⌜ toldList r ≡ listAt reading tag (now (s .entry)) (c .at) ⌝ }
+// Whether the operator at a place is whole, has a value of one octet and bears the end mark.
+fn alone(s: &[u8], at: usize) -> bool
+    requires { ⌜ at < length (now s) ⌝ }
+    ensures { λ r. ⌜ r ≡ aloneAt (now (s .entry)) at ⌝ }
 {
-    let bound = choices::limit(reading, operators::kind_of(tag));
-    let mut i = c.at;
+    if s.len() - at < 2 {
+        return false;
+    }
+    (128 <= s[at]) & (s[at] / 16 % 4 == 0)
+}
+
+// The list at a place, by the bound on its operators' low four bits.
+fn measure_on(s: &[u8], at: usize, bound: u8) -> Listed
+    ensures { λ r. ⌜ Measured bound (now (s .entry)) at r ⌝ }
+{
+    let mut i = at;
     let mut n: usize = 0;
     loop {
         if s.len() <= i {
@@ -83,7 +106,7 @@ pub fn measure(c: Cursor, s: &[u8], reading: Reading, tag: u8) -> Listed
             });
         }
         let octet = s[i];
-        let w = octets::width(octet);
+        let w = octets::shifted(octet / 16 % 4);
         let from = i + 1;
         if s.len() - from < w {
             return Listed::Refused(Fault {
@@ -104,12 +127,43 @@ pub fn measure(c: Cursor, s: &[u8], reading: Reading, tag: u8) -> Listed
             };
         }
         let r = measure_run(s, i, n, octet / 16 % 4, w, bound);
-        i = r.next.at;
+        i = r.at;
         n = r.count;
+        if r.done {
+            return Listed::Done {
+                count: n,
+                next: Cursor { at: i },
+            };
+        }
     }
 }
 
-// On over the operators of one width that bear no end mark, each to the lent lists.
+// The list from the cursor on, in a component of the type `tag`: how many operators it has, and the cursor moved past it.
+pub fn measure(c: Cursor, s: &[u8], reading: Reading, tag: u8) -> Listed
+    ensures { λ r. ⌜ toldList r ≡ listAt reading tag (now (s .entry)) (c .at) ⌝ }
+{
+    let at = c.at;
+    let bound = choices::limit(reading, operators::kind_of(tag));
+    if s.len() <= at {
+        return Listed::Refused(Fault {
+            error: FlowSpecError::InsufficientData,
+        });
+    }
+    if alone(s, at) {
+        if bound <= s[at] % 16 {
+            return Listed::Refused(Fault {
+                error: FlowSpecError::InvalidOperator(s[at]),
+            });
+        }
+        return Listed::Done {
+            count: 1,
+            next: Cursor { at: at + 2 },
+        };
+    }
+    measure_on(s, at, bound)
+}
+
+// On over the operators of one width, each to the lent lists, up to the list's end or the first of another width.
 fn fill_run(
     s: &[u8],
     values: &mut [u64],
@@ -120,26 +174,21 @@ fn fill_run(
     code: u8,
     w: usize,
     kind: Kind,
-) -> Tally
+) -> Ran
     requires { ⌜ Filling (now s) start at n (length (now values)) (length (now octets)) ⌝ }
-    requires { ⌜ code < 4 ⌝ }
+    requires { ⌜ code ≡ codeIn (getD (now s) at 0) ⌝ }
     requires { ⌜ w ≡ getD widths code 0 ⌝ }
-    ensures { λ r. ⌜ Filled kind (now (s .entry)) start (now (values .entry)) (now (octets .entry)) at n (now (values .exit)) (now (octets .exit)) (r .next .at) (r .count) ⌝ }
+    ensures { λ r. ⌜ FilledBy kind (now (s .entry)) start (now (values .entry)) (now (octets .entry)) at n (now (values .exit)) (now (octets .exit)) r ⌝ }
 {
     let mut i = at;
     let mut c = n;
     loop {
         let octet = s[i];
-        if 128 <= octet {
-            return Tally {
-                count: c,
-                next: Cursor { at: i },
-            };
-        }
         if code != octet / 16 % 4 {
-            return Tally {
+            return Ran {
                 count: c,
-                next: Cursor { at: i },
+                at: i,
+                done: false,
             };
         }
         let p = start + c;
@@ -147,6 +196,13 @@ fn fill_run(
         octets[p] = operators::cleared(kind, octet);
         c += 1;
         i = i + w + 1;
+        if 128 <= octet {
+            return Ran {
+                count: c,
+                at: i,
+                done: true,
+            };
+        }
     }
 }
 
@@ -160,10 +216,10 @@ fn fill_width(
     n: usize,
     code: u8,
     kind: Kind,
-) -> Tally
+) -> Ran
     requires { ⌜ Filling (now s) start at n (length (now values)) (length (now octets)) ⌝ }
-    requires { ⌜ code < 4 ⌝ }
-    ensures { λ r. ⌜ Filled kind (now (s .entry)) start (now (values .entry)) (now (octets .entry)) at n (now (values .exit)) (now (octets .exit)) (r .next .at) (r .count) ⌝ }
+    requires { ⌜ code ≡ codeIn (getD (now s) at 0) ⌝ }
+    ensures { λ r. ⌜ FilledBy kind (now (s .entry)) start (now (values .entry)) (now (octets .entry)) at n (now (values .exit)) (now (octets .exit)) r ⌝ }
 {
     match code {
         0 => fill_run(s, values, octets, start, at, n, 0, 1, kind),
@@ -173,44 +229,41 @@ fn fill_width(
     }
 }
 
-// The operators that are left of a list after its first n, of which the last had the width of the code.
+// All operators of a list, run by run, with their reserved bits 0.
 fn fill_on(
     s: &[u8],
     values: &mut [u64],
     octets: &mut [u8],
     start: usize,
     at: usize,
-    n: usize,
-    code: u8,
     kind: Kind,
 ) -> Tally
-    requires { ⌜ Filling (now s) start at n (length (now values)) (length (now octets)) ⌝ }
-    requires { ⌜ code < 4 ⌝ }
-    ensures values { λ r. ⌜ now (values .exit) ≡ sets (now (values .entry)) (start + n) (map numberOf (left kind (now (s .entry)) at)) ⌝ }
-    ensures octets { λ r. ⌜ now (octets .exit) ≡ sets (now (octets .entry)) (start + n) (map octetOf (left kind (now (s .entry)) at)) ⌝ }
-    ensures end { λ r. ⌜ r ≡ ends (now (s .entry)) at n ⌝ }
+    requires { ⌜ Filling (now s) start at 0 (length (now values)) (length (now octets)) ⌝ }
+    ensures { λ r. ⌜ Stored kind (now (s .entry)) start (now (values .entry)) (now (octets .entry)) at 0 (now (values .exit)) (now (octets .exit)) r ⌝ }
 {
     let mut i = at;
-    let mut c = n;
-    let mut width = code;
+    let mut c: usize = 0;
     loop {
-        let r = fill_width(s, values, octets, start, i, c, width, kind);
-        i = r.next.at;
+        let r = fill_width(s, values, octets, start, i, c, s[i] / 16 % 4, kind);
+        i = r.at;
         c = r.count;
-        let octet = s[i];
-        width = octet / 16 % 4;
-        let w = octets::stride(width);
-        let p = start + c;
-        values[p] = octets::read_value(s, i + 1, width);
-        octets[p] = operators::cleared(kind, octet);
-        c += 1;
-        i = i + w + 1;
-        if 128 <= octet {
+        if r.done {
             return Tally {
                 count: c,
                 next: Cursor { at: i },
             };
         }
+    }
+}
+
+// The first octet of an accepted list, as it is recorded: in the plain reading it has no reserved bit to clear.
+fn recorded(reading: Reading, tag: u8, octet: u8) -> u8
+    requires { ⌜ refusedIn reading (kindOf tag) octet ≡ false ⌝ }
+    ensures { λ r. ⌜ r ≡ firstIn reading (clearedIn (kindOf tag) octet) ⌝ }
+{
+    match reading {
+        Reading::Plain => octet,
+        _ => choices::first(reading, operators::cleared(operators::kind_of(tag), octet)),
     }
 }
 
@@ -232,18 +285,16 @@ pub fn fill(
     ensures octets { λ r. ⌜ now (octets .exit) ≡ sets (now (octets .entry)) start (map octetOf (recordedOps reading tag (opsAt (now (s .entry)) at))) ⌝ }
     ensures end { λ r. ⌜ listAt reading tag (now (s .entry)) at ≡ accepts r ⌝ }
 {
-    let kind = operators::kind_of(tag);
     let octet = s[at];
-    let code = octet / 16 % 4;
-    let w = octets::stride(code);
-    values[start] = octets::read_value(s, at + 1, code);
-    octets[start] = choices::first(reading, operators::cleared(kind, octet));
-    let next = at + w + 1;
-    if 128 <= octet {
+    if (128 <= octet) & (octet / 16 % 4 == 0) {
+        values[start] = octets::read_value(s, at + 1, 0);
+        octets[start] = recorded(reading, tag, octet);
         return Tally {
             count: 1,
-            next: Cursor { at: next },
+            next: Cursor { at: at + 2 },
         };
     }
-    fill_on(s, values, octets, start, next, 1, code, kind)
+    let t = fill_on(s, values, octets, start, at, operators::kind_of(tag));
+    octets[start] = choices::first(reading, octets[start]);
+    t
 }
