@@ -1,4 +1,5 @@
 pub mod Components
+pub mod Rooms
 pub mod Stores
 pub mod Ways
 pub mod Bodies

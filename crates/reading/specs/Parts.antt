@@ -10,7 +10,8 @@ use Rattle.ground.specs.Picks.{pick}
 use Rattle.ground.specs.Answers.{Answer, accepts, declines}
 use Rattle.choices.specs.declared.Reading.{Reading}
 use Rattle.stored.specs.declared.Piece.the-variants.{NoRecord}
-use Rattle.reading.specs.Readings.{ReadRule, readRule, readAt}
+use Rattle.octets.specs.Lengths.{lengthWidth}
+use Rattle.reading.specs.Readings.{ReadRule, readRule, readAt, shorter}
 use Rattle.walk.specs.Walks.{FoundAt, foundAt, typedAt, Body, body, walkAt}
 
 abbrev pub isFound : Answer FoundAt → Bool
@@ -59,6 +60,11 @@ ruleIn (declines f) = readRule (body [] []) 0 0
 abbrev pub readOf : Reading → List ℕ → ReadRule
 readOf reading s = ruleIn (readAt reading s)
 
--- where the body starts, by the first octet of the length
+-- where the body starts: after the length field, by its first octet
 abbrev pub bodyStart : ℕ → ℕ
-bodyStart octet = pick (ltb octet 240) 1 2
+bodyStart octet = lengthWidth octet
+
+-- what lent lists of so many words, values and octets lack for a rule with so many operators: 0 where there is room, else the rule places or the
+-- operator places that `roomed` carries
+unfoldable pub lackingOf : ℕ → ℕ → ℕ → ℕ → ℕ
+lackingOf operators words values octets = pick (ltb words 64) 1 (pick (ltb (shorter values octets) operators) operators 0)

@@ -15,13 +15,11 @@ ghost use Rattle.stored.specs.Stored.{head, ruleWords};
 ghost use Rattle.walk.specs.Walks.{walkAt};
 ghost use Rattle.reading.specs.Readings.{tooLong, statedAt, readAt, readInto, standardInto, toldInto, takenOf, wordsOf, operatorsOf};
 ghost use Rattle.choices.specs.Choices.{familyOf};
-ghost use Rattle.reading.specs.Parts.{isBody, Standing, foundHere, bodyAt, isRead, readOf, bodyStart};
+ghost use Rattle.reading.specs.Parts.{isBody, Standing, foundHere, bodyAt, isRead, readOf, lackingOf};
 use choices::Reading;
 use choices::Standard;
 use lists::Tally;
 use octets::Cursor;
-use octets::Length;
-use octets::LengthRead;
 use refusals::Fault;
 use refusals::FlowSpecError;
 use stored::Piece;
@@ -42,13 +40,6 @@ fn too_long(reading: Reading, n: usize) -> bool
         Reading::Ipv4 => false,
         Reading::Ipv6 => false,
     }
-}
-
-// Where the body starts, by the first octet of the length.
-fn body_start(octet: u8) -> usize
-    ensures { λ r. ⌜ r ≡ bodyStart octet ⌝ }
-{
-    if octet < 240 { 1 } else { 2 }
 }
 
 // The component at a place to the words from `word` on, and its operators to the lists: they start at `start` counted from `first`. Answers how
@@ -145,12 +136,10 @@ fn put_all(
 }
 
 // The first walk over what follows the length.
-fn test_body(reading: Reading, input: &[u8], stated: Length) -> ReadInto
-    requires { ⌜ stated .next .at ≤ length (now input) ⌝ }
-    ensures { λ r. ⌜ toldInto r ≡ takenOf (statedAt reading (now (input .entry)) (stated .next .at) (stated .size)) ⌝ }
+fn test_body(reading: Reading, input: &[u8], start: usize, size: usize) -> ReadInto
+    requires { ⌜ start ≤ length (now input) ⌝ }
+    ensures { λ r. ⌜ toldInto r ≡ takenOf (statedAt reading (now (input .entry)) start size) ⌝ }
 {
-    let start = stated.next.at;
-    let size = stated.size;
     if input.len() - start < size {
         return ReadInto::Refused(Fault {
             error: FlowSpecError::InsufficientData,
@@ -167,20 +156,46 @@ fn test_body(reading: Reading, input: &[u8], stated: Length) -> ReadInto
     }
 }
 
-// What a reading with room for all would answer. Nothing is lent to be written.
+// What a reading with room for all would answer. Nothing is lent to be written. The length field is read in small steps, and not by
+// `Cursor::parse_length`, whose enum would go through memory.
 pub fn test(reading: Reading, input: &[u8]) -> ReadInto
     ensures { λ r. ⌜ toldInto r ≡ takenOf (readAt reading (now (input .entry))) ⌝ }
 {
-    if too_long(reading, input.len()) {
+    let n = input.len();
+    if too_long(reading, n) {
         return ReadInto::Refused(Fault {
-            error: FlowSpecError::InputTooLong(input.len()),
+            error: FlowSpecError::InputTooLong(n),
         });
     }
-    let c = Cursor { at: 0 };
-    match c.parse_length(input) {
-        LengthRead::Is(stated) => test_body(reading, input, stated),
-        LengthRead::Refused(fault) => ReadInto::Refused(fault),
+    if n == 0 {
+        return ReadInto::Refused(Fault {
+            error: FlowSpecError::InsufficientData,
+        });
     }
+    let start = octets::length_width(input[0]);
+    if n < start {
+        return ReadInto::Refused(Fault {
+            error: FlowSpecError::InsufficientData,
+        });
+    }
+    test_body(reading, input, start, octets::length_value(input, 0, start))
+}
+
+// What lent lists of so many words, values and octets lack for a rule with so many operators: nothing, or the number that NoRoom carries. A rule
+// with no operators lacks no place for one, so that number is never 0.
+pub fn lacking(operators: usize, words: usize, values: usize, octets: usize) -> usize
+    ensures { λ r. ⌜ r ≡ lackingOf operators words values octets ⌝ }
+{
+    if words < 64 {
+        return 1;
+    }
+    if values < operators {
+        return operators;
+    }
+    if octets < operators {
+        return operators;
+    }
+    0
 }
 
 // The second pass over an input that was tested, and used so many octets: its rule to the first 64 words, its operators to the lists from `first`
@@ -200,7 +215,7 @@ pub fn store(
     ensures values { λ _. ⌜ now (values .exit) ≡ sets (now (values .entry)) first (map numberOf (readOf reading (now (input .entry)) .operators)) ⌝ }
     ensures octets { λ _. ⌜ now (octets .exit) ≡ sets (now (octets .entry)) first (map octetOf (readOf reading (now (input .entry)) .operators)) ⌝ }
 {
-    let start = body_start(input[0]);
+    let start = octets::length_width(input[0]);
     let end = choices::bound(reading, input.len(), used);
     put_all(
         reading,
@@ -230,19 +245,10 @@ pub fn read_into(
     match tested {
         ReadInto::Refused(fault) => ReadInto::Refused(fault),
         ReadInto::Read { used, operators } => {
-            if words.len() < 64 {
+            let lack = lacking(operators, words.len(), values.len(), octets.len());
+            if lack != 0 {
                 return ReadInto::Refused(Fault {
-                    error: FlowSpecError::NoRoom(1),
-                });
-            }
-            if values.len() < operators {
-                return ReadInto::Refused(Fault {
-                    error: FlowSpecError::NoRoom(operators),
-                });
-            }
-            if octets.len() < operators {
-                return ReadInto::Refused(Fault {
-                    error: FlowSpecError::NoRoom(operators),
+                    error: FlowSpecError::NoRoom(lack),
                 });
             }
             store(reading, input, used, words, values, octets, 0);

@@ -15,17 +15,17 @@ use Rattle.walk.proofs.walk.Reads as walk-reads
 
 -- the part that the walk sees is within the input
 in-body : (c : tie.After-bound)
-    → (c .before .before .before .args .stated .next .at ≤ c .bound .result) × (c .bound .result ≤ length (c .before .before .before .args .input .now))
+    → (c .before .before .before .args .start ≤ c .bound .result) × (c .bound .result ≤ length (c .before .before .before .args .input .now))
 in-body c =
     let g = c .before .before .before in
     let h = c .before .if1 .left in
     let p = g .pre in
-    rw (c .bound .ensures) (bound-in (g .args .reading) (length (g .args .input .now)) (g .args .stated .next .at) (g .args .stated .size) (omega arith))
+    rw (c .bound .ensures) (bound-in (g .args .reading) (length (g .args .input .now)) (g .args .start) (g .args .size) (omega arith))
 
 returns : tie.Need-returns
 returns c =
     let g = c .before .before in
-    stated-past (g .args .reading) (g .args .input .now) (g .args .stated .next .at) (g .args .stated .size) (g .pre) (c .if1 .taken)
+    stated-past (g .args .reading) (g .args .input .now) (g .args .start) (g .args .size) (g .pre) (c .if1 .taken)
 
 sub-walk : tie.Need-sub-walk
 sub-walk c = in-body c .0
@@ -42,7 +42,7 @@ returns-2 c =
     let w = o .before .before in
     let b = w .before .before in
     let g = b .before .before .before in
-    walk-taken (g .args .reading) (g .args .input .now) (g .args .stated .next .at) (g .args .stated .size) (g .pre) (b .before .if1 .left) (b .bound .ensures) (sym (ap toldWalk (o .operators .given .1)) ∙ w .walk .ensures)
+    walk-taken (g .args .reading) (g .args .input .now) (g .args .start) (g .args .size) (g .pre) (b .before .if1 .left) (b .bound .ensures) (sym (ap toldWalk (o .operators .given .1)) ∙ w .walk .ensures)
 
 returns-3 : tie.Need-returns-3
 returns-3 c =
@@ -50,7 +50,7 @@ returns-3 c =
     let w = o .before .before in
     let b = w .before .before in
     let g = b .before .before .before in
-    walk-taken (g .args .reading) (g .args .input .now) (g .args .stated .next .at) (g .args .stated .size) (g .pre) (b .before .if1 .left) (b .bound .ensures) (sym (ap toldWalk (o .fault .given .1)) ∙ w .walk .ensures)
+    walk-taken (g .args .reading) (g .args .input .now) (g .args .start) (g .args .size) (g .pre) (b .before .if1 .left) (b .bound .ensures) (sym (ap toldWalk (o .fault .given .1)) ∙ w .walk .ensures)
 
 pub test-body-spec : {M : Type 1} → statement M
 test-body-spec =
