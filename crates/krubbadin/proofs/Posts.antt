@@ -1,5 +1,6 @@
 -- What a reading or a writing leaves behind, told of the one that a number names.
 use mathlib.Core.Path.{_≡_, subst}
+use mathlib.Core.Bool.{true}
 use mathlib.Core.List.{List, map}
 use Prim.Native.Nat.{ℕ}
 use lib.ListN.{length}
@@ -8,9 +9,10 @@ use Rattle.ground.specs.Answers.{Answer}
 use Rattle.choices.specs.declared.Reading.{Reading}
 use Rattle.operators.specs.Ops.{octetOf, numberOf}
 use Rattle.reading.specs.Readings.{byReading, takenOf, wordsOf, operatorsOf}
+use Rattle.reading.specs.Parts.{isRead}
 use Rattle.writing.specs.Writings.{counted, octetsIn}
 use Rattle.krubbadin.specs.declared.KrubbadinAnswer.{KrubbadinAnswer}
-use Rattle.krubbadin.specs.Surface.{readAnswer, writtenAnswer, byWriting}
+use Rattle.krubbadin.specs.Surface.{readAnswer, byCheck, writtenAnswer, byWriting}
 
 abbrev pub Post : List ℕ → List ℕ → List ℕ → List ℕ → KrubbadinAnswer → List ℕ → List ℕ → List ℕ → Answer Reading → Type 0
 Post s ws vs os r ws′ vs′ os′ a =
@@ -21,6 +23,13 @@ Post s ws vs os r ws′ vs′ os′ a =
 
 pub named : (s ws vs os : List ℕ) {r : KrubbadinAnswer} {ws′ vs′ os′ : List ℕ} {a b : Answer Reading} → a ≡ b → Post s ws vs os r ws′ vs′ os′ a → Post s ws vs os r ws′ vs′ os′ b
 named s ws vs os {r} {ws′} {vs′} {os′} e p = subst (λ (x : Answer Reading). Post s ws vs os r ws′ vs′ os′ x) e p
+
+-- and a check
+abbrev pub Checked : List ℕ → KrubbadinAnswer → Answer Reading → Type 0
+Checked s r a = (r ≡ readAnswer (takenOf (byCheck a s))) × (r .status ≡ 0 → isRead (byCheck a s) ≡ true)
+
+pub named-check : (s : List ℕ) {r : KrubbadinAnswer} {a b : Answer Reading} → a ≡ b → Checked s r a → Checked s r b
+named-check s {r} e p = subst (λ (x : Answer Reading). Checked s r x) e p
 
 abbrev pub Wrote : List ℕ → List ℕ → List ℕ → List ℕ → KrubbadinAnswer → List ℕ → Answer Reading → Type 0
 Wrote ws vs os out r out′ a =

@@ -8,7 +8,7 @@ use lib.Dec.{eqb}
 use Rattle.ground.specs.Picks.{pick}
 use Rattle.choices.specs.declared.Reading.{Reading}
 use Rattle.choices.specs.declared.Reading.the-variants.{Plain}
-use Rattle.reading.specs.Readings.{Taken}
+use Rattle.reading.specs.Readings.{ReadRule, Taken, readAt}
 use Rattle.choices.specs.Choices.{standardOf}
 use Rattle.writing.specs.Writings.{writtenFrom}
 use Rattle.krubbadin.specs.declared.KrubbadinAnswer.{KrubbadinAnswer}
@@ -24,6 +24,11 @@ readAnswer (declines f) = refusedWith (f .number) (f .carried)
 -- what a call asks for: 0 is the plain reading, any other number the standard one in the family that is given, 4 or 6, else BadFamily
 unfoldable pub whichOf : ℕ → ℕ → Answer Reading
 whichOf standard family = pick (eqb standard 0) (accepts Plain) (standardOf family)
+
+-- a check: what the input is to that reading by itself, whatever room a reading would have
+abbrev pub byCheck : Answer Reading → List ℕ → Answer ReadRule
+byCheck (accepts reading) s = readAt reading s
+byCheck (declines f) s = declines f
 
 -- a writing: the octets written
 abbrev pub writtenAnswer : Answer ℕ → KrubbadinAnswer

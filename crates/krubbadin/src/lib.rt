@@ -1,6 +1,7 @@
 // The exported surface: plain numbers and slices, for C and Rust. Each function takes anything: words that are no rule, empty slices and
 // lists of unequal lengths are refused, not trusted. A slice is a pointer and then a length.
 ghost use mathlib.Core.Path.{_≡_};
+ghost use mathlib.Core.Bool.{true};
 ghost use mathlib.Core.List.{map};
 ghost use lib.ListN.{length};
 ghost use lib.Seq.{sets};
@@ -10,7 +11,8 @@ ghost use Rattle.refusals.specs.Refusals.{numberOf as errorNumber, carriedOf};
 ghost use Rattle.reading.specs.Readings.{toldInto, byReading, takenOf, wordsOf, operatorsOf};
 ghost use Rattle.measuring.specs.Grounds.{counted};
 ghost use Rattle.writing.specs.Writings.{toldWritten, octetsIn};
-ghost use Rattle.krubbadin.specs.Surface.{refusedWith, readAnswer, whichOf, writtenAnswer, byWriting};
+ghost use Rattle.reading.specs.Parts.{isRead};
+ghost use Rattle.krubbadin.specs.Surface.{refusedWith, readAnswer, whichOf, byCheck, writtenAnswer, byWriting};
 use choices::Reading;
 use choices::Standard;
 use reading::ReadInto;
@@ -61,6 +63,19 @@ fn named_by(standard: u8, family: u8) -> Standard
         return Standard::Is(Reading::Plain);
     }
     choices::reading_of(family)
+}
+
+// Whether an NLRI would be read: the octets used and the operators that a reading with room for all would fill, or that reading's refusal. Nothing is
+// lent to be written. `standard` and `family` are those of a reading.
+#[no_mangle]
+pub extern "C" fn krubbadin_check(standard: u8, family: u8, input: &[u8]) -> KrubbadinAnswer
+    ensures answer { λ r. ⌜ r ≡ readAnswer (takenOf (byCheck (whichOf standard family) (now (input .entry)))) ⌝ }
+    ensures sure { λ r. ⌜ (r .status ≡ 0 → isRead (byCheck (whichOf standard family) (now (input .entry))) ≡ true) ⌝ }
+{
+    match named_by(standard, family) {
+        Standard::Is(reading) => read_answer(reading::test(reading, input)),
+        Standard::Refused(fault) => refused(fault),
+    }
 }
 
 // Reads an NLRI: its rule to the first 64 words, its operators to the two lists. With `standard` 0 it is the
