@@ -2,14 +2,14 @@
 -- in 9, NoRoom, alone (`check-short`).
 use Prim.Native.Nat.{ℕ, _≤_}
 use mathlib.Core.Path.{_≡_, refl, sym, ap, _∙_}
-use mathlib.Core.Bool.{true}
+use mathlib.Core.Bool.{true, false≢true}
 use mathlib.Core.List.{List, [], _∷_}
 use mathlib.Core.Logic.{_⊎_, inl, inr}
 use native.Mathlib.Omega.{arith}
 use borrow.Author.Tests.{le-ltb}
 use lib.Dec.{ltb, leb}
 use lib.ListN.{length}
-use Rattle.ground.specs.Answers.{Answer, accepts, refuses, declines}
+use Rattle.ground.specs.Answers.{Refused as Refusal, Answer, accepts, refuses, declines}
 use Rattle.ground.proofs.Answers.{never}
 use Rattle.ground.proofs.Cases.{by-test}
 use Rattle.refusals.specs.declared.FlowSpecError.{FlowSpecError}
@@ -20,8 +20,9 @@ use Rattle.refusals.specs.Refusals.{numberOf, outerNumber}
 use Rattle.choices.specs.declared.Reading.{Reading}
 use Rattle.reading.specs.declared.ReadInto.{ReadInto}
 use Rattle.reading.specs.declared.ReadInto.the-variants.{Read, Refused}
-use Rattle.reading.specs.Readings.{ReadRule, readAt, shorter, roomed, readInto, byReading, toldInto, takenOf, operatorsOf}
+use Rattle.reading.specs.Readings.{ReadRule, readAt, shorter, roomed, readInto, byReading, toldInto, taken, takenOf, operatorsOf}
 use Rattle.reading.specs.Parts.{isRead}
+use Rattle.krubbadin.specs.declared.KrubbadinAnswer.{KrubbadinAnswer}
 use Rattle.krubbadin.specs.Surface.{readAnswer, byCheck}
 
 -- no refusal has the number 0
@@ -57,11 +58,26 @@ numbered BadPacket e = omega arith
 numbered (MixedFamily place) e = omega arith
 numbered (Outer o) e = outer-numbered o e
 
+-- the refusal that an answer is
+abbrev pub refusalIn : Answer ReadRule → Refusal
+refusalIn (accepts r) = record { number = 0; carried = [] }
+refusalIn (declines f) = f
+
 -- what is told of a reading has status 0 just where it is accepted
 pub sure : (x : ReadInto) (d : Answer ReadRule) → toldInto x ≡ takenOf d → readAnswer (toldInto x) .status ≡ 0 → isRead d ≡ true
 sure (Read used operators) (accepts r) e z = refl
 sure (Read used operators) (declines f) e z = never (sym e)
 sure (Refused f) d e z = absurd (numbered (f .error) z)
+
+-- what status 0 tells of it
+pub told-taken : (a : KrubbadinAnswer) (d : Answer ReadRule) → a ≡ readAnswer (takenOf d) → isRead d ≡ true → accepts (taken (a .first) (a .second)) ≡ takenOf d
+told-taken a (accepts r) e i = rw e
+told-taken a (declines f) e i = absurd (false≢true i)
+
+-- and any other status
+pub told-refused : (a : KrubbadinAnswer) (d : Answer ReadRule) → a ≡ readAnswer (takenOf d) → (a .status ≡ 0 → ⊥) → refuses (refusalIn d .number) (refusalIn d .carried) ≡ takenOf d
+told-refused a (accepts r) e z = absurd (z (ap (λ (x : KrubbadinAnswer). x .status) e))
+told-refused a (declines f) e z = refl
 
 -- ---- a check and a reading
 

@@ -1,16 +1,18 @@
 -- What a reading or a writing leaves behind, told of the one that a number names.
-use mathlib.Core.Path.{_≡_, subst}
+use mathlib.Core.Path.{_≡_, refl, sym, ap, subst, _∙_}
 use mathlib.Core.Bool.{true}
 use mathlib.Core.List.{List, map}
 use Prim.Native.Nat.{ℕ}
 use lib.ListN.{length}
 use lib.Seq.{sets}
-use Rattle.ground.specs.Answers.{Answer}
+use Rattle.ground.specs.Answers.{Answer, accepts, declines}
 use Rattle.choices.specs.declared.Reading.{Reading}
 use Rattle.operators.specs.Ops.{octetOf, numberOf}
-use Rattle.reading.specs.Readings.{byReading, takenOf, wordsOf, operatorsOf}
+use Rattle.reading.specs.Readings.{readAt, byReading, takenOf, wordsOf, operatorsOf}
 use Rattle.reading.specs.Parts.{isRead}
 use Rattle.writing.specs.Writings.{counted, octetsIn}
+use Rattle.reading.proofs.Ways.{test-refused}
+use Rattle.krubbadin.proofs.Checks.{told-refused}
 use Rattle.krubbadin.specs.declared.KrubbadinAnswer.{KrubbadinAnswer}
 use Rattle.krubbadin.specs.Surface.{readAnswer, byCheck, writtenAnswer, byWriting}
 
@@ -23,6 +25,14 @@ Post s ws vs os r ws′ vs′ os′ a =
 
 pub named : (s ws vs os : List ℕ) {r : KrubbadinAnswer} {ws′ vs′ os′ : List ℕ} {a b : Answer Reading} → a ≡ b → Post s ws vs os r ws′ vs′ os′ a → Post s ws vs os r ws′ vs′ os′ b
 named s ws vs os {r} {ws′} {vs′} {os′} e p = subst (λ (x : Answer Reading). Post s ws vs os r ws′ vs′ os′ x) e p
+
+-- what a check refuses, a reading does, and leaves everything as it came
+pub refused-check : (s ws vs os : List ℕ) (r : KrubbadinAnswer) (a : Answer Reading) → r ≡ readAnswer (takenOf (byCheck a s)) → (r .status ≡ 0 → ⊥) → Post s ws vs os r ws vs os a
+refused-check s ws vs os r (accepts reading) e z =
+    let q = told-refused r (readAt reading s) e z in
+    let p = test-refused reading s ws vs os q in
+    (e ∙ sym (ap readAnswer q) ∙ ap readAnswer (p .0), p .1)
+refused-check s ws vs os r (declines f) e z = (e, (refl, (refl, refl)))
 
 -- and a check
 abbrev pub Checked : List ℕ → KrubbadinAnswer → Answer Reading → Type 0

@@ -8,7 +8,7 @@ ghost use lib.Seq.{sets};
 ghost use Rattle.operators.specs.Ops.{octetOf, numberOf};
 ghost use Rattle.choices.specs.Choices.{toldStandard};
 ghost use Rattle.refusals.specs.Refusals.{numberOf as errorNumber, carriedOf};
-ghost use Rattle.reading.specs.Readings.{toldInto, byReading, takenOf, wordsOf, operatorsOf};
+ghost use Rattle.reading.specs.Readings.{toldInto, readAt, readInto, byReading, takenOf, wordsOf, operatorsOf};
 ghost use Rattle.measuring.specs.Grounds.{counted};
 ghost use Rattle.writing.specs.Writings.{toldWritten, octetsIn};
 ghost use Rattle.reading.specs.Parts.{isRead};
@@ -78,8 +78,48 @@ pub extern "C" fn krubbadin_check(standard: u8, family: u8, input: &[u8]) -> Kru
     }
 }
 
+// What was checked, to the lent words and lists, where there is room.
+fn store_checked(
+    reading: Reading,
+    input: &[u8],
+    checked: KrubbadinAnswer,
+    words: &mut [u64],
+    values: &mut [u64],
+    octets: &mut [u8],
+) -> KrubbadinAnswer
+    requires { ⌜ (checked ≡ readAnswer (takenOf (readAt reading (now input)))) × (isRead (readAt reading (now input)) ≡ true) ⌝ }
+    ensures answer { λ r. ⌜ r ≡ readAnswer (takenOf (readInto reading (now (input .entry)) (length (now (words .entry))) (length (now (values .entry))) (length (now (octets .entry))))) ⌝ }
+    ensures words { λ r. ⌜ now (words .exit) ≡ sets (now (words .entry)) 0 (wordsOf (readInto reading (now (input .entry)) (length (now (words .entry))) (length (now (values .entry))) (length (now (octets .entry))))) ⌝ }
+    ensures values { λ r. ⌜ now (values .exit) ≡ sets (now (values .entry)) 0 (map numberOf (operatorsOf (readInto reading (now (input .entry)) (length (now (words .entry))) (length (now (values .entry))) (length (now (octets .entry)))))) ⌝ }
+    ensures octets { λ r. ⌜ now (octets .exit) ≡ sets (now (octets .entry)) 0 (map octetOf (operatorsOf (readInto reading (now (input .entry)) (length (now (words .entry))) (length (now (values .entry))) (length (now (octets .entry)))))) ⌝ }
+{
+    let lack = reading::lacking(
+        checked.second as usize,
+        words.len(),
+        values.len(),
+        octets.len(),
+    );
+    if lack != 0 {
+        return KrubbadinAnswer {
+            status: 9,
+            first: lack as u64,
+            second: 0,
+        };
+    }
+    reading::store(
+        reading,
+        input,
+        checked.first as usize,
+        words,
+        values,
+        octets,
+        0,
+    );
+    checked
+}
+
 // Reads an NLRI: its rule to the first 64 words, its operators to the two lists. With `standard` 0 it is the
-// plain reading, which looks at no family; else the standard one in the family. One export for all readings: the reading has one caller
+// plain reading, which looks at no family; else the standard one in the family. One export for all readings: what they share has one caller
 // then, and the compiler makes one function of both.
 #[no_mangle]
 pub extern "C" fn krubbadin_read(
@@ -95,14 +135,12 @@ pub extern "C" fn krubbadin_read(
     ensures values { λ r. ⌜ now (values .exit) ≡ sets (now (values .entry)) 0 (map numberOf (operatorsOf (byReading (whichOf standard family) (now (input .entry)) (length (now (words .entry))) (length (now (values .entry))) (length (now (octets .entry)))))) ⌝ }
     ensures octets { λ r. ⌜ now (octets .exit) ≡ sets (now (octets .entry)) 0 (map octetOf (operatorsOf (byReading (whichOf standard family) (now (input .entry)) (length (now (words .entry))) (length (now (values .entry))) (length (now (octets .entry)))))) ⌝ }
 {
+    let checked = krubbadin_check(standard, family, input);
+    if checked.status != 0 {
+        return checked;
+    }
     match named_by(standard, family) {
-        Standard::Is(reading) => read_answer(reading::read_into(
-            reading,
-            input,
-            words,
-            values,
-            octets,
-        )),
+        Standard::Is(reading) => store_checked(reading, input, checked, words, values, octets),
         Standard::Refused(fault) => refused(fault),
     }
 }
