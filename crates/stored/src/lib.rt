@@ -4,10 +4,12 @@
 // The functions with a `requires` are no entry points: they serve loops that have tested what is asked.
 ghost use mathlib.Core.Path.{_≡_};
 ghost use mathlib.Core.List.{_∷_, []};
-ghost use Prim.Native.Nat.{_+_, _-_, _*_, _%_, _≤_};
+ghost use Prim.Native.Nat.{_+_, _-_, _*_, _%_, _≤_, _<_};
+ghost use lib.Dec.{eqb};
 ghost use lib.ListN.{length, replicate};
 ghost use lib.Seq.{sets};
 ghost use Rattle.stored.specs.Pieces.{prefixQuad, quadOf, pieceWords, networkOf, sameQuad, quadAt, pieceOf, pieceAt, isRecord};
+ghost use Rattle.stored.specs.Views.{Shows};
 ghost use Rattle.stored.specs.Stored.{head, tailWords, countAt, familyAt, firstAt, recordsFrom, zerosFrom, isFramed, isRule};
 use rules::NetworkPrefix;
 
@@ -215,6 +217,121 @@ pub fn piece_at(words: &[u64], at: usize) -> Piece
     list_in(tag, q)
 }
 
+// What the words of a component show at a glance. Form 1 is a list, 2 a prefix of IPv4, 3 a prefix of IPv6 with an offset; 0 is whatever is none of
+// these, of which `piece_at` tells more. What a form does not have is 0. Fields share no place as an enum's do, so that a view stays in registers.
+pub struct View {
+    pub form: u8,
+    pub tag: u8,
+    pub start: usize,
+    pub count: usize,
+    pub length: u8,
+    pub offset: u8,
+    pub address: u32,
+    pub high: u64,
+    pub low: u64,
+}
+
+fn no_view() -> View
+    ensures { λ r. ⌜ r .form ≡ 0 ⌝ }
+{
+    View {
+        form: 0,
+        tag: 0,
+        start: 0,
+        count: 0,
+        length: 0,
+        offset: 0,
+        address: 0,
+        high: 0,
+        low: 0,
+    }
+}
+
+fn view_list(q: Quad) -> View
+    requires { ⌜ (3 ≤ q .mark) × (q .mark < 14) ⌝ }
+    ensures { λ r. ⌜ Shows r (pieceOf q) ⌝ }
+{
+    if q.c == 0 {
+        return View {
+            form: 1,
+            tag: q.mark as u8,
+            start: q.a as usize,
+            count: q.b as usize,
+            length: 0,
+            offset: 0,
+            address: 0,
+            high: 0,
+            low: 0,
+        };
+    }
+    no_view()
+}
+
+fn view_ipv4(q: Quad) -> View
+    requires { ⌜ q .mark < 3 ⌝ }
+    ensures { λ r. ⌜ Shows r (pieceOf q) ⌝ }
+{
+    if 0 < q.mark {
+        if q.c == 0 {
+            if q.a <= 255 {
+                if q.b <= 4294967295 {
+                    return View {
+                        form: 2,
+                        tag: q.mark as u8,
+                        start: 0,
+                        count: 0,
+                        length: q.a as u8,
+                        offset: 0,
+                        address: q.b as u32,
+                        high: 0,
+                        low: 0,
+                    };
+                }
+            }
+        }
+    }
+    no_view()
+}
+
+fn view_ipv6(q: Quad) -> View
+    requires { ⌜ 14 ≤ q .mark ⌝ }
+    ensures { λ r. ⌜ Shows r (pieceOf q) ⌝ }
+{
+    if 48 < q.mark {
+        if q.mark < 51 {
+            if q.a <= 65535 {
+                return View {
+                    form: 3,
+                    tag: (q.mark - 48) as u8,
+                    start: 0,
+                    count: 0,
+                    length: (q.a % 256) as u8,
+                    offset: (q.a / 256) as u8,
+                    address: 0,
+                    high: q.b,
+                    low: q.c,
+                };
+            }
+        }
+    }
+    no_view()
+}
+
+// The view of the component at a word. No entry point.
+pub fn view_at(words: &[u64], at: usize) -> View
+    requires { ⌜ at + 4 ≤ length (now words) ⌝ }
+    ensures { λ r. ⌜ Shows r (pieceAt (now (words .entry)) at) ⌝ }
+{
+    let q = quad_at(words, at);
+    if q.mark < 3 {
+        return view_ipv4(q);
+    }
+    if q.mark < 14 {
+        return view_list(q);
+    }
+    view_ipv6(q)
+}
+
 fn is_record(piece: Piece) -> bool
     ensures { λ r. ⌜ r ≡ isRecord piece ⌝ }
 {
@@ -239,18 +356,42 @@ fn all_records(words: &[u64], base: usize, count: usize) -> bool
     true
 }
 
-// Whether the words from one up to another are all 0. With no way out of the loop, it goes four words at a time.
-fn all_zero(words: &[u64], from: usize, to: usize) -> bool
-    requires { ⌜ (from ≤ to) × (to ≤ length (now words)) ⌝ }
-    ensures { λ r. ⌜ r ≡ zerosFrom (to - from) (now (words .entry)) from ⌝ }
+// All bits of the groups of four words from one group up to another. With no way out of the loop, it goes many words at a time.
+fn joined_groups(words: &[u64], base: usize, from: usize, to: usize) -> u64
+    requires { ⌜ (from ≤ to) × (to ≤ 16) × (base + 64 ≤ length (now words)) ⌝ }
+    ensures { λ r. ⌜ zerosFrom (base + 4 * to - (base + 4 * from)) (now (words .entry)) (base + 4 * from) ≡ eqb r 0 ⌝ }
 {
     let mut sum: u64 = 0;
-    let mut at = from;
-    while at < to {
-        sum = sum | words[at];
-        at += 1;
+    let mut g = from;
+    while g < to {
+        let at = base + 4 * g;
+        sum = sum | words[at] | words[at + 1] | words[at + 2] | words[at + 3];
+        g += 1;
     }
-    sum == 0
+    sum
+}
+
+// All bits of the components past the count. Where that is a constant, the loop goes without a turn: nearly every rule has so few.
+fn joined_unused(words: &[u64], base: usize, count: usize) -> u64
+    requires { ⌜ (count ≤ 13) × (base + 64 ≤ length (now words)) ⌝ }
+    ensures { λ r. ⌜ zerosFrom (base + 52 - (base + 4 * count)) (now (words .entry)) (base + 4 * count) ≡ eqb r 0 ⌝ }
+{
+    match count {
+        1 => joined_groups(words, base, 1, 13),
+        2 => joined_groups(words, base, 2, 13),
+        3 => joined_groups(words, base, 3, 13),
+        4 => joined_groups(words, base, 4, 13),
+        5 => joined_groups(words, base, 5, 13),
+        _ => joined_groups(words, base, count, 13),
+    }
+}
+
+// All bits of the last nine words.
+fn joined_last(words: &[u64], base: usize) -> u64
+    requires { ⌜ base + 64 ≤ length (now words) ⌝ }
+    ensures { λ r. ⌜ zerosFrom 9 (now (words .entry)) (base + 55) ≡ eqb r 0 ⌝ }
+{
+    words[base + 55] | joined_groups(words, base, 14, 16)
 }
 
 // How many components the 64 words from a word on count. No entry point.
@@ -289,10 +430,7 @@ pub fn is_framed(words: &[u64], base: usize) -> bool
     if 255 < words[base + 53] {
         return false;
     }
-    if !all_zero(words, base + 4 * count, base + 52) {
-        return false;
-    }
-    all_zero(words, base + 55, base + 64)
+    joined_unused(words, base, count) | joined_last(words, base) == 0
 }
 
 // Whether the 64 words from a word on are a rule. No entry point.
