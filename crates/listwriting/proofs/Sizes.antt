@@ -37,6 +37,12 @@ pub ops-one : (vs os : List ℕ) (at : ℕ) → opsIn vs os at 1 ≡ op (getD os
 unfolding opsIn
 ops-one vs os at = refl
 
+-- some octets of some operators
+pub size-least : (os : List ℕ) (at n : ℕ) → 0 < n → 0 < sizeIn os at n
+unfolding sizeIn
+size-least os at zero h = absurd (omega arith)
+size-least os at (suc n) h = omega arith
+
 -- at most nine octets an operator
 pub size-most : (os : List ℕ) (at n : ℕ) → sizeIn os at n ≤ 9 * n
 unfolding sizeIn

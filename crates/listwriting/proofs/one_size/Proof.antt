@@ -1,5 +1,4 @@
 -- `listwriting::one_size` meets its contract.
-use mathlib.Core.Path.{_≡_}
 use native.Mathlib.Omega.{arith}
 use Rattle.octets.proofs.Widths.{width-most}
 use Rattle.listwriting.proofs.Joins.{alone-not, alone-is}
