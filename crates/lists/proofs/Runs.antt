@@ -2,17 +2,20 @@
 -- an operator alone is the list.
 use Prim.Native.Nat.{ℕ, _+_, _-_, _/_, _%_, _≤_, _<_}
 use mathlib.Core.Path.{_≡_, refl, sym, _∙_, ap}
-use mathlib.Core.Bool.{Bool, true, false, false≢true}
+use mathlib.Core.Bool.{Bool, true, false, _&&_, false≢true}
 use mathlib.Core.List.{List, [], _∷_}
 use native.Mathlib.Omega.{arith}
-use borrow.Author.Tests.{leb-true, ltb-false, eqb-true, lt-ltb, le-ltb}
+use borrow.Author.Tests.{leb-true, ltb-true, ltb-false, eqb-true, lt-ltb, le-ltb}
 use lib.ListN.{length, getD}
 use lib.Dec.{leb, ltb, eqb}
 use Rattle.ground.specs.Answers.{Answer, accepts, refuses, declines}
 use Rattle.ground.proofs.Cases.{by-test, both}
 use Rattle.octets.specs.Widths.{widths, codeIn, widthOf}
 use Rattle.choices.specs.declared.Reading.{Reading}
-use Rattle.choices.specs.Choices.{refusedIn}
+use Rattle.choices.specs.declared.Reading.the-variants.{Plain, Ipv4, Ipv6}
+use Rattle.choices.specs.Choices.{refusedIn, limitOf}
+use Rattle.operators.specs.declared.Kind.{Kind}
+use Rattle.operators.specs.declared.Kind.the-variants.{Numeric, Bitmask}
 use Rattle.choices.proofs.Limits.{is-taken}
 use Rattle.operators.specs.Ops.{kindOf}
 use Rattle.lists.specs.declared.Tally.{Tally}
@@ -97,30 +100,38 @@ lone-is x e =
     let b = both (leb 128 x) (eqb (codeIn x) 0) e in
     (leb-true 128 x (b .0), width-by x refl (eqb-true (codeIn x) 0 (b .1)))
 
-pub alone-is : (s : List ℕ) (at : ℕ) → aloneAt s at ≡ true → (at + 1 < length s) × (lone (getD s at 0) ≡ true)
+pub alone-is : (s : List ℕ) (at : ℕ) → aloneAt s at ≡ true → (at + 1 < length s) × ((lone (getD s at 0) ≡ true) × (getD s at 0 % 16 < 4))
 unfolding aloneAt
 alone-is s at e =
     by-test (ltb (length s - at) 2)
     (λ h. absurd (false≢true (rw h at e)))
-    (λ h. (omega (arith, ltb-false (length s - at) 2 h), rw h at e))
+    (λ h. let b = both (lone (getD s at 0)) (ltb (getD s at 0 % 16) 4) (rw h at e) in
+    (omega (arith, ltb-false (length s - at) 2 h), (b .0, ltb-true (getD s at 0 % 16) 4 (b .1))))
 
 pub alone-short : (s : List ℕ) (at : ℕ) → length s - at < 2 → false ≡ aloneAt s at
 unfolding aloneAt
 alone-short s at h = simp (lt-ltb _ _ h)
 
-pub alone-whole : (s : List ℕ) (at : ℕ) → 2 ≤ length s - at → lone (getD s at 0) ≡ aloneAt s at
+pub alone-whole : (s : List ℕ) (at : ℕ) → 2 ≤ length s - at → (lone (getD s at 0) && ltb (getD s at 0 % 16) 4) ≡ aloneAt s at
 unfolding aloneAt
 alone-whole s at h = simp (le-ltb _ _ h)
 
 module _ (r : Reading) (t : ℕ) (s : List ℕ) (at : ℕ) (h : at + 1 < length s) (l : lone (getD s at 0) ≡ true) where
-  within : at + widthOf (getD s at 0) < length s
-  within = omega (arith, lone-is (getD s at 0) l .1)
-
-  pub lone-refused : refusedIn r (kindOf t) (getD s at 0) ≡ true → listAt r t s at ≡ refuses 5 (getD s at 0 ∷ [])
-  lone-refused e = list-refused r t s at within e
-
   pub lone-done : refusedIn r (kindOf t) (getD s at 0) ≡ false → listAt r t s at ≡ accepts (tally 1 (at + 2))
   lone-done e =
       let f = lone-is (getD s at 0) l in
+      let w : at + widthOf (getD s at 0) < length s = omega (arith, f .1) in
       let i : at + 1 + widthOf (getD s at 0) ≡ at + 2 = omega (arith, f .1) in
-      list-last r t s at (operator-taken r t s at within e) (f .0) ∙ ap (λ (a : ℕ). accepts (tally 1 a)) i
+      list-last r t s at (operator-taken r t s at w e) (f .0) ∙ ap (λ (a : ℕ). accepts (tally 1 a)) i
+
+-- four is the least limit
+least : (r : Reading) (k : Kind) → 4 ≤ limitOf r k
+least Plain Numeric = omega arith
+least Plain Bitmask = omega arith
+least Ipv4 k = omega arith
+least Ipv6 k = omega arith
+
+pub alone-done : (r : Reading) (t : ℕ) (s : List ℕ) (at : ℕ) → aloneAt s at ≡ true → listAt r t s at ≡ accepts (tally 1 (at + 2))
+alone-done r t s at e =
+    let a = alone-is s at e in
+    lone-done r t s at (a .0) (a .1 .0) (is-taken r (kindOf t) (getD s at 0) (omega (arith, a .1 .1, least r (kindOf t))))

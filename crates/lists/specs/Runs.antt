@@ -1,6 +1,6 @@
 -- What the loops promise each other: where a run stands within its list. No public promise of a reading rests on these but through
 -- `Lists`.
-use Prim.Native.Nat.{ℕ, _+_, _-_, _≤_, _<_}
+use Prim.Native.Nat.{ℕ, _+_, _-_, _%_, _≤_, _<_}
 use mathlib.Core.Path.{_≡_}
 use mathlib.Core.Bool.{Bool, true, false, _&&_}
 use mathlib.Core.List.{List, [], _∷_, map}
@@ -46,9 +46,9 @@ pub record Passed (bound : ℕ) (s : List ℕ) (at n : ℕ) (r : Ran) : Type 0 w
 abbrev pub lone : ℕ → Bool
 lone octet = leb 128 octet && eqb (codeIn octet) 0
 
--- such an operator is at a place, and whole: it is the list
+-- such an operator is at a place and whole, and has no bit that any reading reserves: it is the list
 unfoldable pub aloneAt : List ℕ → ℕ → Bool
-aloneAt s at = pick (ltb (length s - at) 2) false (lone (getD s at 0))
+aloneAt s at = pick (ltb (length s - at) 2) false (lone (getD s at 0) && ltb (getD s at 0 % 16) 4)
 
 -- the answer for the list at a place, whatever reading and type have the bound
 abbrev pub Measured : ℕ → List ℕ → ℕ → Listed → Type 0

@@ -82,7 +82,8 @@ fn measure_run(s: &[u8], at: usize, n: usize, code: u8, w: usize, bound: u8) -> 
     }
 }
 
-// Whether the operator at a place is whole, has a value of one octet and bears the end mark.
+// Whether the operator at a place is whole, has a value of one octet, bears the end mark and has no bit that some reading reserves: nearly every list
+// of one operator, whatever the reading.
 fn alone(s: &[u8], at: usize) -> bool
     requires { ⌜ at < length (now s) ⌝ }
     ensures { λ r. ⌜ r ≡ aloneAt (now (s .entry)) at ⌝ }
@@ -90,7 +91,7 @@ fn alone(s: &[u8], at: usize) -> bool
     if s.len() - at < 2 {
         return false;
     }
-    (128 <= s[at]) & (s[at] / 16 % 4 == 0)
+    (128 <= s[at]) & (s[at] / 16 % 4 == 0) & (s[at] % 16 < 4)
 }
 
 // The list at a place, by the bound on its operators' low four bits.
@@ -143,24 +144,18 @@ pub fn measure(c: Cursor, s: &[u8], reading: Reading, tag: u8) -> Listed
     ensures { λ r. ⌜ toldList r ≡ listAt reading tag (now (s .entry)) (c .at) ⌝ }
 {
     let at = c.at;
-    let bound = choices::limit(reading, operators::kind_of(tag));
     if s.len() <= at {
         return Listed::Refused(Fault {
             error: FlowSpecError::InsufficientData,
         });
     }
     if alone(s, at) {
-        if bound <= s[at] % 16 {
-            return Listed::Refused(Fault {
-                error: FlowSpecError::InvalidOperator(s[at]),
-            });
-        }
         return Listed::Done {
             count: 1,
             next: Cursor { at: at + 2 },
         };
     }
-    measure_on(s, at, bound)
+    measure_on(s, at, choices::limit(reading, operators::kind_of(tag)))
 }
 
 // On over the operators of one width, each to the lent lists, up to the list's end or the first of another width.

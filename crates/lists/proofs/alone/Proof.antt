@@ -10,9 +10,9 @@ returns : tie.Need-returns
 returns c = alone-short _ _ (c .if1 .taken)
 
 returns-2 : tie.Need-returns-2
-returns-2 c = alone-whole _ _ (c .before .before .if1 .left)
+returns-2 c = alone-whole _ _ (c .before .before .before .if1 .left)
 
 pub alone-spec : {M : Type 1} → statement M
 alone-spec =
     tie.close
-    (tie.spec (λ c. search needs) returns (λ c. search needs) (λ c. search needs) returns-2)
+    (tie.spec (λ c. search needs) returns (λ c. search needs) (λ c. search needs) (λ c. search needs) returns-2)
