@@ -1,8 +1,9 @@
 // Which stored rules are well-formed, and matching and ranking callable by themselves: they refuse as the chooser does.
 ghost use mathlib.Core.Path.{_≡_};
-ghost use Rattle.packets.specs.Packets.{packetAt};
+ghost use mathlib.Core.Bool.{true};
+ghost use Rattle.packets.specs.Packets.{packetOk, packetAt};
 ghost use Rattle.writing.specs.Writings.{bodyFrom};
-ghost use Rattle.verdicts.specs.Verdicts.{accepted, wellFormed, matchVerdict, rankVerdict, toldMatched, toldRanked};
+ghost use Rattle.verdicts.specs.Verdicts.{accepted, wellFormed, judgement, matchVerdict, rankVerdict, toldMatched, toldRanked};
 use choices::Reading;
 use choices::Standard;
 use measuring::Measured;
@@ -20,6 +21,12 @@ pub enum Matched {
 pub enum Ranked {
     Is(Order),
     Refused(Fault),
+}
+
+// Whether a rule is well-formed, and whether the packet satisfies it where that is so and was asked.
+pub struct Judged {
+    pub formed: bool,
+    pub met: bool,
 }
 
 // Whether the rule at the front of the words can be measured in a writing.
@@ -49,6 +56,28 @@ pub fn well_formed(words: &[u64], at: usize, values: &[u64], octets: &[u8]) -> b
         Standard::Is(writing) => is_measured(writing, &words[at..], values, octets),
         Standard::Refused(_) => false,
     }
+}
+
+// Whether the 64 words from a word on are a well-formed rule, and, if it is asked, whether the packet satisfies it. No entry point.
+pub fn judge(
+    words: &[u64],
+    at: usize,
+    values: &[u64],
+    octets: &[u8],
+    packet: &[u64],
+    ask: bool,
+) -> Judged
+    requires { ⌜ (ask ≡ true → packetOk (packetAt (now packet)) ≡ true) ⌝ }
+    ensures { λ r. ⌜ r ≡ judgement (now (words .entry)) (now (values .entry)) (now (octets .entry)) (packetAt (now (packet .entry))) ask at ⌝ }
+{
+    if !well_formed(words, at, values, octets) {
+        return Judged { formed: false, met: false };
+    }
+    if ask {
+        let met = matching::rule_matches(words, at, values, octets, packet);
+        return Judged { formed: true, met: met };
+    }
+    Judged { formed: true, met: false }
 }
 
 // Whether a packet satisfies the rule at the front of the words.
