@@ -71,13 +71,22 @@ pub fn judge(
     ensures { λ r. ⌜ r ≡ judgement (now (words .entry)) (now (values .entry)) (now (octets .entry)) (packetAt (now (packet .entry))) ask at ⌝ }
 {
     if !well_formed(words, at, values, octets) {
-        return Judged { formed: false, met: false };
+        return Judged {
+            formed: false,
+            met: false,
+        };
     }
     if ask {
         let met = matching::rule_matches(words, at, values, octets, packet);
-        return Judged { formed: true, met: met };
+        return Judged {
+            formed: true,
+            met: met,
+        };
     }
-    Judged { formed: true, met: false }
+    Judged {
+        formed: true,
+        met: false,
+    }
 }
 
 // Whether a packet satisfies the rule at the front of the words.
