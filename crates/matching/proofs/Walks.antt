@@ -17,35 +17,40 @@ module _ (values octets : List ℕ) (p : Packet) (ws : List ℕ) (base count fir
   unfoldable pub rest : ℕ → Bool
   rest i = all (pieceMatches values octets first p) (piecesFrom (count - i) ws (base + 4 * i))
 
+  pub rest-starts : count ≡ countAt ws base → first ≡ firstAt ws base → ruleMatches values octets p (storedAt ws base) ≡ rest 0
+  unfolding ruleMatches rest
+  rest-starts e f =
+      let n : count ≡ count - 0 = omega arith in
+      let b : base ≡ base + 4 * 0 = omega arith in
+      rw (← e, ← f) (ap₂ (λ (k j : ℕ). all (pieceMatches values octets first p) (piecesFrom k ws j)) n b)
+
+  pub rest-more : (i : ℕ) → i < count → rest i ≡ (pieceMatches values octets first p (pieceAt ws (base + 4 * i)) && rest (i + 1))
+  unfolding rest piecesFrom all
+  rest-more i h =
+      let e : count - i ≡ suc (count - (i + 1)) = omega arith in
+      let f : base + 4 * i + 4 ≡ base + 4 * (i + 1) = omega arith in
+      rw (e, f)
+
+  pub rest-ends : (i : ℕ) → count ≤ i → rest i ≡ true
+  unfolding rest piecesFrom all
+  rest-ends i h = let e : count - i ≡ 0 = omega arith in rw e
+
   pub record Walked (i : ℕ) : Type 0 where
     pub most : count ≤ 13
     pub passed : i ≤ count
     pub same : ruleMatches values octets p (storedAt ws base) ≡ rest i
 
   pub walk-starts : isRule ws base ≡ true → count ≡ countAt ws base → first ≡ firstAt ws base → Walked 0
-  unfolding ruleMatches rest
-  walk-starts h e f =
-      let n : count ≡ count - 0 = omega arith in
-      let b : base ≡ base + 4 * 0 = omega arith in
-      record {
-        most = omega (arith, e, framed ws base (rule-framed ws base h) .few);
-        passed = omega arith;
-        same = rw (← e, ← f) (ap₂ (λ (k j : ℕ). all (pieceMatches values octets first p) (piecesFrom k ws j)) n b);
-      }
+  walk-starts h e f = record { most = omega (arith, e, framed ws base (rule-framed ws base h) .few); passed = omega arith; same = rest-starts e f }
 
   module _ (i : ℕ) (w : Walked i) where
     pub walk-ends : count ≤ i → true ≡ ruleMatches values octets p (storedAt ws base)
-    unfolding rest piecesFrom all
-    walk-ends h = let e : count - i ≡ 0 = omega arith in sym (w .same ∙ rw e)
+    walk-ends h = sym (w .same ∙ rest-ends i h)
 
     -- a turn, by what the code has found of the piece
     module _ (h : i < count) (x : Piece) (b : Bool) (is : x ≡ pieceAt ws (base + 4 * i)) (says : b ≡ pieceMatches values octets first p x) where
       turn : ruleMatches values octets p (storedAt ws base) ≡ (b && rest (i + 1))
-      unfolding rest piecesFrom all
-      turn =
-          let e : count - i ≡ suc (count - (i + 1)) = omega arith in
-          let f : base + 4 * i + 4 ≡ base + 4 * (i + 1) = omega arith in
-          w .same ∙ rw (e, f, says, is)
+      turn = w .same ∙ rest-more i h ∙ rw (says, is)
 
       pub walk-stops : not b ≡ true → false ≡ ruleMatches values octets p (storedAt ws base)
       walk-stops k = sym (turn ∙ rw (not-true b k))

@@ -70,7 +70,7 @@ fn narrow(address: u32) -> Wide
 }
 
 // An IPv4 prefix by two shifts. A longer one than its address is in no well-formed rule.
-fn ipv4_matches(length: u8, address: u32, a: Wide) -> bool
+pub fn ipv4_matches(length: u8, address: u32, a: Wide) -> bool
     ensures { λ r. ⌜ r ≡ sameBits 32 0 length address (num a) ⌝ }
 {
     if 32 < length {
@@ -78,6 +78,13 @@ fn ipv4_matches(length: u8, address: u32, a: Wide) -> bool
     }
     let down = (32 - length) as u32;
     (address as u64) >> down == (a.low % 4294967296) >> down
+}
+
+// An IPv6 prefix from bit offset on.
+pub fn ipv6_matches(offset: u8, length: u8, address: Wide, a: Wide) -> bool
+    ensures { λ r. ⌜ r ≡ sameBits 128 offset length (num address) (num a) ⌝ }
+{
+    same_bits(128, offset, length, address, a)
 }
 
 fn prefix_matches(prefix: NetworkPrefix, a: Wide) -> bool
@@ -170,7 +177,8 @@ fn some_matches(
     false
 }
 
-fn operators_match(
+// Whether a packet satisfies a list, its places counted from the rule's first place of the lent lists. No entry point.
+pub fn operators_match(
     tag: u8,
     start: usize,
     count: usize,
@@ -191,8 +199,14 @@ fn operators_match(
     some_matches(tag, values, octets, first + start, count, packet)
 }
 
-// Whether a packet satisfies a component of a rule whose operators begin at a place of the lent lists.
-fn piece_matches(piece: Piece, first: usize, values: &[u64], octets: &[u8], packet: &[u64]) -> bool
+// Whether a packet satisfies a component of a rule whose operators begin at a place of the lent lists. No entry point.
+pub fn piece_matches(
+    piece: Piece,
+    first: usize,
+    values: &[u64],
+    octets: &[u8],
+    packet: &[u64],
+) -> bool
     requires { ⌜ packetOk (packetAt (now packet)) ≡ true ⌝ }
     ensures { λ r. ⌜ r ≡ pieceMatches (now (values .entry)) (now (octets .entry)) first (packetAt (now (packet .entry))) piece ⌝ }
 {

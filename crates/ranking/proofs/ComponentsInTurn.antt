@@ -9,17 +9,18 @@ use lib.ListN.{length, getD, drop, length-map, List·getD-map}
 use borrow.Author.Tests.{eqb-true}
 use Rattle.ground.proofs.Cases.{both}
 use Rattle.operators.specs.declared.Kind.{Kind}
-use Rattle.operators.specs.Ops.{kindOf, Op, listOctets}
-use Rattle.rules.specs.declared.NetworkPrefix.{NetworkPrefix}
+use Rattle.operators.specs.Ops.{kindOf, Op, opsIn, listOctets}
 use Rattle.stored.specs.declared.Piece.{Piece}
 use Rattle.stored.specs.declared.Piece.the-variants.{Prefix, Operators, NoRecord}
 use Rattle.stored.specs.Pieces.{isRecord, sameQuad, quadAt, pieceAt}
+use Rattle.stored.specs.declared.View.{View}
+use Rattle.stored.specs.Views.{NoList, Shows}
 use Rattle.stored.specs.Stored.{countAt, firstAt, piecesFrom, storedAt}
 use Rattle.stored.proofs.Words.{length-pieces, piece-in, framed, rule-framed}
 use Rattle.ranking.specs.declared.Order.{Order}
 use Rattle.ranking.specs.declared.Order.the-variants.{Equal}
 use Rattle.ranking.specs.Ranks.{lower, thenBy, rankOctets, Content, prefixed, listed, Compared, compared, comparedOf, rankContent, rankCompared, rank, allCompared, rankOf, Inside, AllInside, Rankable}
-use Rattle.ranking.proofs.Orders.{equal-same, equals-itself}
+use Rattle.ranking.proofs.Orders.{low-equal, equal-same, equals-itself}
 use Rattle.ranking.proofs.Keys.{compared-ordered}
 use Rattle.ranking.proofs.LeftInTurn.{Passed, none-passed, one-ended, next-tells}
 
@@ -59,12 +60,26 @@ module _ (values octets : List ℕ) (first : ℕ) where
         → rankCompared (comparedOf values octets first a) (comparedOf values2 octets2 first2 b) ≡ rankCompared (comparedOf values octets first p) (comparedOf values2 octets2 first2 q)
     both-told a b p q e f = sym (ap₂ (λ (x y : Piece). rankCompared (comparedOf values octets first x) (comparedOf values2 octets2 first2 y)) e f)
 
-    -- four words the same name the same piece, and a prefix is all in its words
-    pub same-prefix : (ws : List ℕ) (at : ℕ) (ws2 : List ℕ) (at2 : ℕ) (tag : ℕ) (prefix : NetworkPrefix) → pieceAt ws at ≡ Prefix tag prefix → sameQuad (quadAt ws at) (quadAt ws2 at2) ≡ true
+    -- lists of one type, as two views show them
+    pub by-views : (v w : View) (p q : Piece) (k : Kind) → Shows v p → Shows w q → v .form ≡ 1 → w .form ≡ 1 → v .tag ≡ w .tag → k ≡ kindOf (v .tag)
+        → rankOctets (listOctets k (opsIn values octets (first + v .start) (v .count))) (listOctets k (opsIn values2 octets2 (first2 + w .start) (w .count)))
+        ≡ rankCompared (comparedOf values octets first p) (comparedOf values2 octets2 first2 q)
+    by-views v w p q k a b f g t e =
+        by-lists (v .tag) (w .tag) (opsIn values octets (first + v .start) (v .count)) (opsIn values2 octets2 (first2 + w .start) (w .count)) k e (sym (low-equal (v .tag) (w .tag) t))
+        ∙ both-told (Operators (v .tag) (v .start) (v .count)) (Operators (w .tag) (w .start) (w .count)) p q (a .list f) (b .list g)
+
+    -- what is no list is all in its words
+    no-list-equal : (p : Piece) → NoList p → Equal ≡ rankCompared (comparedOf values octets first p) (comparedOf values2 octets2 first2 p)
+    no-list-equal (Prefix tag p) n = sym (equals-itself rankCompared compared-ordered (compared tag (prefixed p)))
+    no-list-equal (Operators tag start count) n = absurd n
+    no-list-equal NoRecord n = sym (equals-itself rankCompared compared-ordered (compared 0 (listed [])))
+
+    -- and four words the same name the same piece
+    pub same-words-equal : (ws : List ℕ) (at : ℕ) (ws2 : List ℕ) (at2 : ℕ) → NoList (pieceAt ws at) → sameQuad (quadAt ws at) (quadAt ws2 at2) ≡ true
         → Equal ≡ rankCompared (comparedOf values octets first (pieceAt ws at)) (comparedOf values2 octets2 first2 (pieceAt ws2 at2))
-    same-prefix ws at ws2 at2 tag prefix e s =
-        sym (equals-itself rankCompared compared-ordered (compared tag (prefixed prefix)))
-        ∙ both-told (Prefix tag prefix) (Prefix tag prefix) (pieceAt ws at) (pieceAt ws2 at2) e (sym (same-piece ws at ws2 at2 s) ∙ e)
+    same-words-equal ws at ws2 at2 n s =
+        no-list-equal (pieceAt ws at) n
+        ∙ both-told (pieceAt ws at) (pieceAt ws at) (pieceAt ws at) (pieceAt ws2 at2) refl (sym (same-piece ws at ws2 at2 s))
 
 -- a rule has no NoRecord
 pub inside-record : (v o first : ℕ) (p : Piece) → Inside v o first p → isRecord p ≡ true

@@ -293,9 +293,8 @@ fn same_words(words: &[u64], at: usize, words2: &[u64], at2: usize) -> bool
             & ((words[at + 2] == words2[at2 + 2]) & (words[at + 3] == words2[at2 + 3])))
 }
 
-// Two components where they stand. Prefixes of the same words are equal, and only the first of them is taken apart. Lists of the same words are
-// not: each counts its operators from its own rule's first place.
-fn compare_components(
+// Two components, taken apart.
+fn compare_others(
     words: &[u64],
     at: usize,
     values: &[u64],
@@ -312,12 +311,7 @@ fn compare_components(
     ensures { λ r. ⌜ r ≡ rankCompared (comparedOf (now (values .entry)) (now (octets .entry)) first (pieceAt (now (words .entry)) at)) (comparedOf (now (values2 .entry)) (now (octets2 .entry)) first2 (pieceAt (now (words2 .entry)) at2)) ⌝ }
 {
     match stored::piece_at(words, at) {
-        Piece::Prefix { tag, prefix } => {
-            if same_words(words, at, words2, at2) {
-                return Order::Equal;
-            }
-            prefix_against(tag, prefix, stored::piece_at(words2, at2))
-        }
+        Piece::Prefix { tag, prefix } => prefix_against(tag, prefix, stored::piece_at(words2, at2)),
         Piece::Operators { tag, start, count } => list_against(
             tag,
             values,
@@ -331,6 +325,56 @@ fn compare_components(
         ),
         Piece::NoRecord => Order::Equal,
     }
+}
+
+// Two components where they stand. Lists of one type and prefixes of the same words, which are equal, are most of what is compared; neither is
+// taken apart. Lists of the same words are not equal by that: each counts its operators from its own rule's first place.
+fn compare_components(
+    words: &[u64],
+    at: usize,
+    values: &[u64],
+    octets: &[u8],
+    first: usize,
+    words2: &[u64],
+    at2: usize,
+    values2: &[u64],
+    octets2: &[u8],
+    first2: usize,
+) -> Order
+    requires first { ⌜ (at + 4 ≤ length (now words)) × Inside (length (now values)) (length (now octets)) first (pieceAt (now words) at) ⌝ }
+    requires second { ⌜ (at2 + 4 ≤ length (now words2)) × Inside (length (now values2)) (length (now octets2)) first2 (pieceAt (now words2) at2) ⌝ }
+    ensures { λ r. ⌜ r ≡ rankCompared (comparedOf (now (values .entry)) (now (octets .entry)) first (pieceAt (now (words .entry)) at)) (comparedOf (now (values2 .entry)) (now (octets2 .entry)) first2 (pieceAt (now (words2 .entry)) at2)) ⌝ }
+{
+    let v = stored::view_at(words, at);
+    let w = stored::view_at(words2, at2);
+    if (v.form == 1) & (w.form == 1) & (v.tag == w.tag) {
+        return compare_lists(
+            operators::kind_of(v.tag),
+            values,
+            octets,
+            first + v.start,
+            v.count,
+            values2,
+            octets2,
+            first2 + w.start,
+            w.count,
+        );
+    }
+    if (v.form != 1) & same_words(words, at, words2, at2) {
+        return Order::Equal;
+    }
+    compare_others(
+        words,
+        at,
+        values,
+        octets,
+        first,
+        words2,
+        at2,
+        values2,
+        octets2,
+        first2,
+    )
 }
 
 // The rules at two places of lent words, each with its operators. No entry point.
