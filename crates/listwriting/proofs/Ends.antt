@@ -10,8 +10,7 @@ use lib.Dec.{leb}
 use lib.ListN.{getD}
 use Rattle.ground.proofs.Cases.{lt-or-le, both}
 use Rattle.operators.specs.Ops.{op, opsIn}
-use Rattle.listwriting.specs.Lists.{sizeIn, fitsIn, ends, takes, standardSize}
-use Rattle.listwriting.specs.declared.ListSize.the-variants.{Octets, NotTaken}
+use Rattle.listwriting.specs.Lists.{sizeIn, fitsIn, ends, takes, takenSize}
 use Rattle.listwriting.specs.Runs.{rest}
 use Rattle.listwriting.proofs.Sizes.{ops-more, ops-none}
 
@@ -57,15 +56,11 @@ module _ (vs os : List ℕ) where
   right-each q to e i f t = let z : q + (i - q) ≡ i = omega arith in rw z at (right-at (i - q) q to (omega arith) e)
 
   -- which lists are taken
-  pub none-taken : (from count : ℕ) → count ≡ 0 → NotTaken ≡ standardSize vs os from count
-  unfolding takes opsIn
-  none-taken from count e = rw e
-
   module _ (from count : ℕ) (h : 0 < count) where
     whole : opsIn vs os from count ≡ op (getD os from 0) (getD vs from 0) ∷ opsIn vs os (from + 1) (from + count - (from + 1))
     whole = let e : from + count - from ≡ count = omega arith in ap (opsIn vs os from) (sym e) ∙ ops-more vs os from (from + count) (omega arith)
 
-    pub and-first : getD os from 0 % 128 / 64 ≡ 1 → NotTaken ≡ standardSize vs os from count
+    pub and-first : getD os from 0 % 128 / 64 ≡ 1 → 0 ≡ takenSize vs os from count
     unfolding takes
     and-first e = rw (whole, eq-eqb _ _ e)
 
@@ -74,8 +69,8 @@ module _ (vs os : List ℕ) where
     first-turn e = let f : from + count - from ≡ count = omega arith in rw (f, whole, ne-eqb _ _ e)
 
     module _ (e : getD os from 0 % 128 / 64 ≡ 1 → ⊥) where
-      pub size-right : (n : ℕ) → rest vs os from (from + count) ≡ true → n ≡ sizeIn os from (from + count - from) → Octets n ≡ standardSize vs os from count
+      pub size-right : (n : ℕ) → rest vs os from (from + count) ≡ true → n ≡ sizeIn os from (from + count - from) → n ≡ takenSize vs os from count
       size-right n r k = let f : from + count - from ≡ count = omega arith in rw (first-turn e, r, k, f)
 
-      pub size-wrong : rest vs os from (from + count) ≡ false → NotTaken ≡ standardSize vs os from count
+      pub size-wrong : rest vs os from (from + count) ≡ false → 0 ≡ takenSize vs os from count
       size-wrong r = rw (first-turn e, r)

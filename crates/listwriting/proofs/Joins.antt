@@ -1,23 +1,24 @@
--- What is joined over operators: one more, and 16 that are alike. That no bit past its width is set in a value is that the value fits, and bits joined
+-- What is joined over operators: one more, and 16 that are alike; and one operator alone. That no bit past its width is set in a value is that the value fits, and bits joined
 -- are below a power of two if each is.
 use Prim.Native.Nat.{ℕ, zero, suc, _+_, _-_, _*_, _/_, _%_, _^_, _≤_, _<_}
 use mathlib.Core.Path.{_≡_, refl, sym, _∙_, ap, ap₂}
 use mathlib.Core.List.{List, [], _∷_}
-use mathlib.Core.Bool.{Bool, true, false, not, _&&_, false≢true}
+use mathlib.Core.Bool.{Bool, true, false, not, _&&_, _||_, and-true, and-false, false≢true}
 use mathlib.Core.Logic.{⊎-elim}
 use native.Mathlib.Nat.{div-add-mod', div-eq-of-lt, mod-eq-of-lt, mod-lt, zero-mul}
 use native.Mathlib.Omega.{arith}
-use borrow.Author.Tests.{eq-eqb, ne-eqb, le-leb, lt-leb, lt-ltb, le-ltb, eqb-true, eqb-false, ltb-true, ltb-false}
+use borrow.Author.Tests.{eq-eqb, ne-eqb, le-leb, lt-leb, lt-ltb, le-ltb, eqb-true, eqb-false, ltb-true, ltb-false, not-true, not-false}
 use lib.Bits.{bitOr, bitAnd, or-add-and, and-le-l, and-le-r, or-lt, and-high, and-zero-r}
 use lib.Dec.{eqb, leb, ltb}
 use lib.ListN.{getD}
 use lib.Pow.{pow-pos}
 use Rattle.ground.proofs.Cases.{by-test, both, lt-or-le}
 use Rattle.octets.specs.Widths.{codeIn, widths, widthOf}
-use Rattle.octets.proofs.Widths.{width-range}
+use Rattle.octets.proofs.Widths.{width-range, width-most}
+use Rattle.operators.specs.Ops.{op}
 use Rattle.listwriting.specs.declared.Sum.{Sum}
-use Rattle.listwriting.specs.Lists.{sizeIn}
-use Rattle.listwriting.specs.Runs.{Alike, Joined, sum, nothing, sound, rest, Adds}
+use Rattle.listwriting.specs.Lists.{sizeIn, fitsIn, ends, takes, oneSize}
+use Rattle.listwriting.specs.Runs.{beyond, Alike, Joined, sum, nothing, sound, rest, Adds}
 use Rattle.listwriting.proofs.Ends.{fitsAt, rest-last, rest-more, right-each}
 use Rattle.listwriting.proofs.Sizes.{size-more, size-none}
 
@@ -47,10 +48,7 @@ or-none a b = zero-below (bitOr a b) ∙ or-below 0 a b ∙ sym (ap₂ _&&_ (zer
 
 -- ---- the tables
 
--- by the width's code: the bits that no value of the width has, and the octets of an operator
-abbrev pub beyond : List ℕ
-beyond = 18446744073709551360 ∷ 18446744073709486080 ∷ 18446744069414584320 ∷ 0 ∷ []
-
+-- by the width's code: the octets of an operator
 abbrev pub octetsBy : List ℕ
 octetsBy = 2 ∷ 3 ∷ 5 ∷ 9 ∷ []
 
@@ -229,16 +227,49 @@ module _ (vs os : List ℕ) where
     code-known : codeIn (getD os last 0) < 4
     code-known = omega arith
 
-    pub ended-right : ((eqb (bitOr (r .over) (bitAnd (getD vs last 0) (getD beyond (codeIn (getD os last 0)) 0))) 0 && ltb (r .marks) 128) && leb 128 (getD os last 0)) ≡ rest vs os from end
-    ended-right =
+    pub ended-right : (m : ℕ) → m ≡ getD beyond (codeIn (getD os last 0)) 0
+        → ((eqb (bitOr (r .over) (bitAnd (getD vs last 0) m)) 0 && ltb (r .marks) 128) && leb 128 (getD os last 0)) ≡ rest vs os from end
+    ended-right m e =
         ap (λ x. (x && ltb (r .marks) 128) && leb 128 (getD os last 0))
-        (or-none (r .over) (bitAnd (getD vs last 0) (getD beyond (codeIn (getD os last 0)) 0)) ∙ ap (λ x. eqb (r .over) 0 && x) (beyond-by (codeIn (getD os last 0)) (getD vs last 0) code-known word))
+        (or-none (r .over) (bitAnd (getD vs last 0) m)
+        ∙ ap (λ x. eqb (r .over) 0 && x) (ap (λ (k : ℕ). eqb (bitAnd (getD vs last 0) k) 0) e ∙ beyond-by (codeIn (getD os last 0)) (getD vs last 0) code-known word))
         ∙ ending (eqb (r .over) 0) (ltb (r .marks) 128) (fitsAt vs os last) (leb 128 (getD os last 0))
         ∙ ap (λ x. sound r && x) (sym (rest-last vs os last end is))
         ∙ h .added end (omega arith) .right
 
-    pub ended-long : r .size + getD octetsBy (codeIn (getD os last 0)) 0 ≡ sizeIn os from (end - from)
-    ended-long = omega (arith, h .added end (omega arith) .long, size-more os last end (omega arith), size-none os (last + 1) end (omega arith), octets-by (codeIn (getD os last 0)) code-known)
+    pub ended-long : r .size + 1 + widthOf (getD os last 0) ≡ sizeIn os from (end - from)
+    ended-long = omega (arith, h .added end (omega arith) .long, size-more os last end (omega arith), size-none os (last + 1) end (omega arith))
 
-    pub ended-most : r .size + getD octetsBy (codeIn (getD os last 0)) 0 ≤ 9 * (last - from) + 9
-    ended-most = omega (arith, h .most, octets-by (codeIn (getD os last 0)) code-known, width-range (codeIn (getD os last 0)) code-known .1)
+    pub ended-most : r .size + 1 + widthOf (getD os last 0) ≤ 9 * (last - from) + 9
+    ended-most = omega (arith, h .most, width-most (getD os last 0))
+
+-- one operator alone: its two highest bits are 10, and no bit past its width is set
+module _ (o v m : ℕ) (octet : o < 256) (word : v < 2 ^ 64) (is : m ≡ getD beyond (codeIn o) 0) where
+  alone-fits : eqb (bitAnd v m) 0 ≡ fitsIn o v
+  alone-fits = ap (λ (k : ℕ). eqb (bitAnd v k) 0) is ∙ beyond-by (codeIn o) v (omega arith) word
+
+  highest : (b : Bool) → eqb (o / 64) 2 ≡ b → (not (eqb (o % 128 / 64) 1) && (fitsIn o v && leb 128 o)) ≡ (b && fitsIn o v)
+  highest true e =
+      let k : o / 64 ≡ 2 = eqb-true (o / 64) 2 e in
+      ap₂ (λ x y. not x && (fitsIn o v && y)) (ne-eqb (o % 128 / 64) 1 (λ z. omega arith)) (le-leb 128 o (omega arith))
+      ∙ and-true (fitsIn o v)
+  highest false e =
+      let k = eqb-false (o / 64) 2 e in
+      ⊎-elim
+      (λ l. ap (λ y. not (eqb (o % 128 / 64) 1) && (fitsIn o v && y)) (lt-leb 128 o l) ∙ ap (λ y. not (eqb (o % 128 / 64) 1) && y) (and-false (fitsIn o v)) ∙ and-false (not (eqb (o % 128 / 64) 1)))
+      (λ l. ap (λ x. not x && (fitsIn o v && leb 128 o)) (eq-eqb (o % 128 / 64) 1 (⊎-elim (λ a. omega arith) (λ a. absurd (k (omega arith))) (lt-or-le 191 o))))
+      (lt-or-le o 128)
+
+  alone-takes : takes (op o v ∷ []) ≡ (eqb (o / 64) 2 && eqb (bitAnd v m) 0)
+  unfolding takes ends
+  alone-takes = highest (eqb (o / 64) 2) refl ∙ ap (λ x. eqb (o / 64) 2 && x) (sym alone-fits)
+
+  neither : (a b : Bool) → not a || not b ≡ not (a && b)
+  neither true b = refl
+  neither false b = refl
+
+  pub alone-not : not (eqb (o / 64) 2) || not (eqb (bitAnd v m) 0) ≡ true → 0 ≡ oneSize o v
+  alone-not e = rw (alone-takes, not-true (eqb (o / 64) 2 && eqb (bitAnd v m) 0) (sym (neither (eqb (o / 64) 2) (eqb (bitAnd v m) 0)) ∙ e))
+
+  pub alone-is : not (eqb (o / 64) 2) || not (eqb (bitAnd v m) 0) ≡ false → 2 + widthOf o ≡ oneSize o v
+  alone-is e = rw (alone-takes, not-false (eqb (o / 64) 2 && eqb (bitAnd v m) 0) (sym (neither (eqb (o / 64) 2) (eqb (bitAnd v m) 0)) ∙ e))

@@ -11,10 +11,10 @@ use Rattle.octets.specs.Spell.{spelled}
 use Rattle.octets.specs.Widths.{widths, codeIn, widthOf}
 use Rattle.octets.proofs.Spells.{length-spelled}
 use Rattle.operators.specs.declared.Kind.{Kind}
-use Rattle.operators.specs.Ops.{clearedIn, op, opOctets, listOctets}
+use Rattle.operators.specs.Ops.{clearedIn, op, opsIn, opOctets, listOctets}
 use Rattle.listwriting.specs.Lists.{sizeIn}
 use Rattle.listwriting.specs.Runs.{between, Put}
-use Rattle.listwriting.proofs.Sizes.{size-more, size-none, ops-more, ops-none}
+use Rattle.listwriting.proofs.Sizes.{size-more, size-none, size-one, ops-more, ops-none}
 
 module _ (kind : Kind) (values octets : List ℕ) (from to at : ℕ) (out₀ : List ℕ) where
   pub put-first : from ≤ to → Put kind values octets from to at out₀ out₀ from at
@@ -67,3 +67,18 @@ module _ (kind : Kind) (values octets : List ℕ) (from to at : ℕ) (out₀ : L
             stored = rw (s, m, ← sets-append out p (opOctets kind o) (between kind values octets (q + 1) to))
                 (ap (λ os. sets out p (listOctets kind os)) (sym (ops-more values octets q to e)) ∙ h .stored);
           }
+
+-- a list of one operator that takes two octets
+module _ (kind : Kind) (values octets : List ℕ) (from n at : ℕ) (out : List ℕ) (one : n ≡ 1) (is : codeIn (getD octets from 0) ≡ 0) where
+  lone-size : sizeIn octets from n ≡ 2
+  lone-size = let w : widthOf (getD octets from 0) ≡ 1 = ap (λ (k : ℕ). getD widths k 0) is in rw one (omega (arith, size-one octets from))
+
+  pub lone-room : at + sizeIn octets from n ≤ length out → at + 2 ≤ length out
+  lone-room r = omega (arith, lone-size)
+
+  pub put-lone : {out' : List ℕ} {x : ℕ} → x ≡ clearedIn kind (getD octets from 0) → out' ≡ sets (set out at x) (at + 1) (spelled 1 (getD values from 0))
+      → (at + 2 ≡ at + sizeIn octets from n) × (out' ≡ sets out at (listOctets kind (opsIn values octets from n)))
+  put-lone f g =
+      let h = put-more kind values octets from (from + n) at out (put-first kind values octets from (from + n) at out (omega arith)) 0 1 refl (omega arith) is f g in
+      let k : from + n - from ≡ n = omega arith in
+      (omega (arith, lone-size), rw k at (put-end kind values octets from (from + n) at out h (omega arith) .1))

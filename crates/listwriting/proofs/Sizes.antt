@@ -28,6 +28,21 @@ pub ops-none : (vs os : List ℕ) (q to : ℕ) → to ≤ q → opsIn vs os q (t
 unfolding opsIn
 ops-none vs os q to h = let e : to - q ≡ 0 = omega arith in rw e
 
+-- one operator
+pub size-one : (os : List ℕ) (at : ℕ) → sizeIn os at 1 ≡ 1 + widthOf (getD os at 0)
+unfolding sizeIn
+size-one os at = omega arith
+
+pub ops-one : (vs os : List ℕ) (at : ℕ) → opsIn vs os at 1 ≡ op (getD os at 0) (getD vs at 0) ∷ []
+unfolding opsIn
+ops-one vs os at = refl
+
+-- some octets of some operators
+pub size-least : (os : List ℕ) (at n : ℕ) → 0 < n → 0 < sizeIn os at n
+unfolding sizeIn
+size-least os at zero h = absurd (omega arith)
+size-least os at (suc n) h = omega arith
+
 -- at most nine octets an operator
 pub size-most : (os : List ℕ) (at n : ℕ) → sizeIn os at n ≤ 9 * n
 unfolding sizeIn

@@ -7,9 +7,7 @@ use lib.ListN.{getD}
 use lib.Dec.{eqb, leb, ltb}
 use Rattle.octets.specs.Widths.{widthOf}
 use Rattle.ground.specs.Picks.{pick}
-use Rattle.operators.specs.Ops.{Op, opsIn}
-use Rattle.listwriting.specs.declared.ListSize.{ListSize}
-use Rattle.listwriting.specs.declared.ListSize.the-variants.{Octets, NotTaken}
+use Rattle.operators.specs.Ops.{Op, op, opsIn}
 
 -- the octets of n operators from a place on: one each, and its value's width (`length-list` in proofs/ has the law)
 unfoldable pub sizeIn : List ℕ → ℕ → ℕ → ℕ
@@ -31,6 +29,10 @@ unfoldable pub takes : List Op → Bool
 takes [] = false
 takes (o ∷ os) = not (eqb (o .octet % 128 / 64) 1) && ends (o ∷ os)
 
--- both in one: the octets of the operators at so many places, where the standard writing takes them
-abbrev pub standardSize : List ℕ → List ℕ → ℕ → ℕ → ListSize
-standardSize values octets from count = pick (takes (opsIn values octets from count)) (Octets (sizeIn octets from count)) NotTaken
+-- both in one: the octets of the operators at so many places, where the standard writing takes them; a list that it takes has some
+abbrev pub takenSize : List ℕ → List ℕ → ℕ → ℕ → ℕ
+takenSize values octets from count = pick (takes (opsIn values octets from count)) (sizeIn octets from count) 0
+
+-- the octets of a component whose list is one operator, its type octet too
+abbrev pub oneSize : ℕ → ℕ → ℕ
+oneSize octet value = pick (takes (op octet value ∷ [])) (2 + widthOf octet) 0

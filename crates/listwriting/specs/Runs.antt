@@ -1,7 +1,7 @@
 -- What the loops promise each other: where the writing of a list stands, and what was joined of one that is measured. No public promise rests on this but through `Lists`.
 use Prim.Native.Nat.{ℕ, _+_, _-_, _*_, _^_, _≤_, _<_}
 use mathlib.Core.Path.{_≡_}
-use mathlib.Core.List.{List}
+use mathlib.Core.List.{List, [], _∷_}
 use mathlib.Core.Bool.{Bool, _&&_}
 use lib.Dec.{eqb, ltb}
 use lib.ListN.{length, getD}
@@ -23,6 +23,10 @@ pub record Put (kind : Kind) (values octets : List ℕ) (from to at : ℕ) (out�
   pub long : length out ≡ length out₀
   pub place : p + sizeIn octets q (to - q) ≡ at + sizeIn octets from (to - from)
   pub stored : sets out p (between kind values octets q to) ≡ sets out₀ at (between kind values octets from to)
+
+-- by the width's code: the bits that no value of the width has
+abbrev pub beyond : List ℕ
+beyond = 18446744073709551360 ∷ 18446744073709486080 ∷ 18446744069414584320 ∷ 0 ∷ []
 
 -- the octets from a place up to another have one width's code and no end mark
 abbrev pub Alike : List ℕ → ℕ → ℕ → ℕ → Type 0

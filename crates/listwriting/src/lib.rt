@@ -10,8 +10,8 @@ ghost use lib.ListN.{length, getD};
 ghost use lib.Seq.{sets};
 ghost use Rattle.octets.specs.Widths.{widths, codeIn};
 ghost use Rattle.operators.specs.Ops.{opsIn, listOctets};
-ghost use Rattle.listwriting.specs.Lists.{sizeIn, standardSize};
-ghost use Rattle.listwriting.specs.Runs.{Put, Alike, Joined, Adds, nothing};
+ghost use Rattle.listwriting.specs.Lists.{sizeIn, oneSize, takenSize};
+ghost use Rattle.listwriting.specs.Runs.{beyond, Put, Alike, Joined, Adds, nothing};
 use operators::Kind;
 
 // By the width's code: the bits that no value of the width has, and the octets that an operator of the width takes.
@@ -24,11 +24,27 @@ const BEYOND: [u64; 4] = [
 
 const TAKES: [usize; 4] = [2, 3, 5, 9];
 
+// The first table for one operator, where copying it costs more than the match.
+fn bits_beyond(code: u8) -> u64
+    requires { ⌜ code < 4 ⌝ }
+    ensures { λ r. ⌜ r ≡ getD beyond code 0 ⌝ }
+{
+    match code {
+        0 => 0xFFFFFFFFFFFFFF00,
+        1 => 0xFFFFFFFFFFFF0000,
+        2 => 0xFFFFFFFF00000000,
+        _ => 0,
+    }
+}
+
 // How many octets write the operators at so many places. No entry point.
 pub fn size(octets: &[u8], from: usize, count: usize) -> usize
     requires { ⌜ (from + count ≤ length (now octets)) × (count ≤ 2047) ⌝ }
     ensures { λ r. ⌜ r ≡ sizeIn (now (octets .entry)) from count ⌝ }
 {
+    if count == 1 {
+        return 1 + octets::stride(octets[from] / 16 % 4);
+    }
     let to = from + count;
     let mut n = count;
     let mut q = from;
@@ -102,7 +118,8 @@ fn joined(values: &[u64], from: usize) -> u64
     sum
 }
 
-// Operators from one place up to another: 16 that are alike at once, others one by one.
+// Operators from one place up to another: 16 that are alike at once, others one by one. Two places are looked at first, since a list of
+// mixed widths mostly shows there.
 fn add_block(values: &[u64], octets: &[u8], from: usize, to: usize, sum: Sum) -> Sum
     requires lists { ⌜ (from < to) × (to ≤ length (now values)) × (to ≤ length (now octets)) ⌝ }
     requires few { ⌜ sum .size + 9 * (to - from) ≤ 18423 ⌝ }
@@ -110,7 +127,10 @@ fn add_block(values: &[u64], octets: &[u8], from: usize, to: usize, sum: Sum) ->
 {
     if to - from == 16 {
         let code = octets[from] / 16 % 4;
-        if alike(octets, from, code) {
+        if (octets[from + 5] / 16 % 4 == code)
+            & (octets[from + 10] / 16 % 4 == code)
+            & alike(octets, from, code)
+        {
             return Sum {
                 over: sum.over | (joined(values, from) & BEYOND[code as usize]),
                 marks: sum.marks,
@@ -150,32 +170,50 @@ fn add_all(values: &[u64], octets: &[u8], from: usize, to: usize) -> Sum
     sum
 }
 
-// How many octets write a list, where the standard writing takes it.
-pub enum ListSize {
-    Octets(usize),
-    NotTaken,
+// Few operators one by one, many in blocks.
+fn add_some(values: &[u64], octets: &[u8], from: usize, to: usize) -> Sum
+    requires { ⌜ (from ≤ to) × (to ≤ length (now values)) × (to ≤ length (now octets)) × (to - from ≤ 2046) ⌝ }
+    ensures { λ r. ⌜ Adds (now (values .entry)) (now (octets .entry)) from to nothing r ⌝ }
+{
+    if to - from < 16 {
+        let none = Sum {
+            over: 0,
+            marks: 0,
+            size: 0,
+        };
+        return add_each(values, octets, from, to, none);
+    }
+    add_all(values, octets, from, to)
 }
 
-// The operators at so many places, in the standard writing. No entry point.
-pub fn standard_size(values: &[u64], octets: &[u8], from: usize, count: usize) -> ListSize
-    requires { ⌜ (from + count ≤ length (now values)) × (from + count ≤ length (now octets)) × (count ≤ 2047) ⌝ }
-    ensures { λ r. ⌜ r ≡ standardSize (now (values .entry)) (now (octets .entry)) from count ⌝ }
+// In the standard writing: the octets of a component that is a type and one operator, 0 where the list is not taken.
+pub fn one_size(octet: u8, value: u64) -> usize
+    ensures { λ r. ⌜ r ≡ oneSize octet value ⌝ }
 {
-    if count == 0 {
-        return ListSize::NotTaken;
+    let code = octet / 16 % 4;
+    if (octet / 64 != 2) | (value & bits_beyond(code) != 0) {
+        return 0;
     }
+    2 + octets::stride(code)
+}
+
+// In the standard writing: the octets of the operators at so many places, 0 where the list is not taken. No entry point.
+pub fn taken_size(values: &[u64], octets: &[u8], from: usize, count: usize) -> usize
+    requires { ⌜ (from + count ≤ length (now values)) × (from + count ≤ length (now octets)) × (0 < count) × (count ≤ 2047) ⌝ }
+    ensures { λ r. ⌜ r ≡ takenSize (now (values .entry)) (now (octets .entry)) from count ⌝ }
+{
     if octets[from] % 128 / 64 == 1 {
-        return ListSize::NotTaken;
+        return 0;
     }
     let last = from + count - 1;
-    let sum = add_all(values, octets, from, last);
+    let sum = add_some(values, octets, from, last);
     let octet = octets[last];
-    let code = (octet / 16 % 4) as usize;
-    let over = sum.over | (values[last] & BEYOND[code]);
+    let code = octet / 16 % 4;
+    let over = sum.over | (values[last] & bits_beyond(code));
     if (over == 0) & (sum.marks < 128) & (128 <= octet) {
-        return ListSize::Octets(sum.size + TAKES[code]);
+        return sum.size + 1 + octets::stride(code);
     }
-    ListSize::NotTaken
+    0
 }
 
 // How far a list is written: the place of the next operator and that of the next octet.
@@ -256,6 +294,13 @@ pub fn put_list(
     ensures next { λ r. ⌜ r ≡ at + sizeIn (now (octets .entry)) from count ⌝ }
     ensures octets { λ _. ⌜ now (out .exit) ≡ sets (now (out .entry)) at (listOctets kind (opsIn (now (values .entry)) (now (octets .entry)) from count)) ⌝ }
 {
+    if count == 1 {
+        if octets[from] / 16 % 4 == 0 {
+            out[at] = operators::cleared(kind, octets[from]);
+            octets::write_value(out, at + 1, 0, values[from]);
+            return at + 2;
+        }
+    }
     let to = from + count;
     let mut p = at;
     let mut q = from;

@@ -3,7 +3,7 @@ use Prim.Native.Nat.{ℕ, _+_, _-_, _≤_}
 use mathlib.Core.Path.{_≡_, refl, sym, _∙_}
 use mathlib.Core.Bool.{true, _&&_}
 use native.Mathlib.Omega.{arith}
-use borrow.Author.Tests.{eq-eqb, ne-eqb, le-leb, lt-leb, leb-true, leb-false}
+use borrow.Author.Tests.{ne-eqb, le-leb, lt-leb, leb-true, leb-false}
 use lib.Dec.{leb}
 use lib.ListN.{length}
 use Rattle.ground.specs.Picks.{pick}
@@ -31,9 +31,6 @@ below-shorter n a b =
     (λ f. rw (e, f) (sym (and-false (leb n a) refl))))
 
 module _ (l : Lent) (start n : ℕ) where
-  pub inside-none : n ≡ 0 → true ≡ insideOf l start n
-  inside-none e = rw (eq-eqb n 0 e)
-
   module _ (some : n ≡ 0 → ⊥) where
     pub inside-by : insideOf l start n ≡ (leb (l .first + start + n) (length (l .values)) && leb (l .first + start + n) (length (l .octets)))
     inside-by = rw (ne-eqb n 0 some)

@@ -31,6 +31,11 @@ Standard Plain = ⊥
 Standard Ipv4 = Unit {0}
 Standard Ipv6 = Unit {0}
 
+pub not-plain : (w : Reading) → (w ≡ Plain → ⊥) → Standard w
+not-plain Plain h = h refl
+not-plain Ipv4 h = tt
+not-plain Ipv6 h = tt
+
 -- and the families that name them
 pub standard-own : (w : Reading) → Standard w → standardOf (familyOf w) ≡ accepts w
 unfolding standardOf
@@ -89,7 +94,7 @@ module _ (w : Reading) (l : Lent) where
   taken-record NoRecord e = absurd (false≢true e)
 
 -- a list in a standard writing: it names some operators, which lie within both lent lists
-standard-list : (w : Reading) → Standard w → (os : List Op) → listTaken w os ≡ takes os
+pub standard-list : (w : Reading) → Standard w → (os : List Op) → listTaken w os ≡ takes os
 standard-list Plain u os = absurd u
 standard-list Ipv4 u os = refl
 standard-list Ipv6 u os = refl

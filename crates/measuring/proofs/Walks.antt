@@ -14,13 +14,11 @@ use Rattle.choices.specs.declared.Reading.{Reading}
 use Rattle.stored.specs.declared.Piece.{Piece}
 use Rattle.stored.specs.Pieces.{typeOf, pieceAt}
 use Rattle.stored.specs.Stored.{piecesFrom}
-use Rattle.measuring.specs.declared.Weighed.{Weighed}
-use Rattle.measuring.specs.declared.Weighed.the-variants.{Takes, NotTaken}
 use Rattle.measuring.specs.Bodies.{Lent, pieceOctets, bodyOctets}
 use Rattle.measuring.specs.Grounds.{operatorsIn, allOperators, pieceTaken, allTaken, risesIn, inOrder, takenAfter, bodyTaken, bodyOf, counted}
-use Rattle.measuring.specs.Weights.{fitsAfter, weighedOf}
+use Rattle.measuring.specs.Weights.{fitsAfter, weightOf}
 use Rattle.measuring.proofs.Tests.{and-false, leb-rest}
-use Rattle.measuring.proofs.Weights.{weighed-takes, weighed-none, piece-most}
+use Rattle.measuring.proofs.Weights.{weight-zero, weight-some}
 
 -- one piece, and the others after it
 module _ (w : Reading) (l : Lent) (left previous : ℕ) (p : Piece) (ps : List Piece) where
@@ -41,48 +39,20 @@ module _ (w : Reading) (l : Lent) (left previous : ℕ) (p : Piece) (ps : List P
     unfolding fitsAfter
     parts = both (leb (operatorsIn p) left) (pieceTaken w l p && risesIn w previous (typeOf p)) e
 
-    pub fits-few : operatorsIn p ≤ left
-    fits-few = leb-true (operatorsIn p) left (parts .0)
+    few : operatorsIn p ≤ left
+    few = leb-true (operatorsIn p) left (parts .0)
 
-    pub fits-taken : pieceTaken w l p ≡ true
-    fits-taken = both (pieceTaken w l p) (risesIn w previous (typeOf p)) (parts .1) .0
+    taken : pieceTaken w l p ≡ true
+    taken = both (pieceTaken w l p) (risesIn w previous (typeOf p)) (parts .1) .0
 
-    fits-rises : risesIn w previous (typeOf p) ≡ true
-    fits-rises = both (pieceTaken w l p) (risesIn w previous (typeOf p)) (parts .1) .1
+    rises : risesIn w previous (typeOf p) ≡ true
+    rises = both (pieceTaken w l p) (risesIn w previous (typeOf p)) (parts .1) .1
 
     pub after-more : takenAfter w l left previous (p ∷ ps) ≡ takenAfter w l (left - operatorsIn p) (typeOf p) ps
     unfolding takenAfter allTaken inOrder allOperators
     after-more =
-        ap₂ (λ x y. x && ((y && allTaken w l ps) && (risesIn w previous (typeOf p) && inOrder w (typeOf p) ps))) (leb-rest (operatorsIn p) (allOperators ps) left fits-few) fits-taken
-        ∙ ap (λ x. leb (allOperators ps) (left - operatorsIn p) && (allTaken w l ps && (x && inOrder w (typeOf p) ps))) fits-rises
-
--- what an answer of `weigh` says of the piece
-pub record Weighs (w : Reading) (l : Lent) (left previous : ℕ) (p : Piece) (t n m : ℕ) : Type 0 where
-  pub fits : fitsAfter w l left previous p ≡ true
-  pub tag : typeOf p ≡ t
-  pub size : length (pieceOctets w l p) ≡ n
-  pub count : operatorsIn p ≡ m
-  pub few : m ≤ left
-  pub most : n ≤ 19 + 9 * m
-
-module _ (w : Reading) (l : Lent) (left previous : ℕ) {p q : Piece} {r : Weighed} (same : q ≡ p) (is : r ≡ weighedOf w l left previous q) where
-  is-p : r ≡ weighedOf w l left previous p
-  is-p = is ∙ ap (weighedOf w l left previous) same
-
-  pub weighs : {t n m : ℕ} → r ≡ Takes t n m → Weighs w l left previous p t n m
-  weighs e =
-      let f = weighed-takes (fitsAfter w l left previous p) (typeOf p) (length (pieceOctets w l p)) (operatorsIn p) (sym is-p ∙ e) in
-      record {
-        fits = f .0;
-        tag = f .1;
-        size = f .2;
-        count = f .3;
-        few = omega (arith, f .3, fits-few w l left previous p [] (f .0));
-        most = omega (arith, f .2, f .3, piece-most w l p (fits-taken w l left previous p [] (f .0)));
-      }
-
-  pub weighs-not : r ≡ NotTaken → fitsAfter w l left previous p ≡ false
-  weighs-not e = weighed-none (fitsAfter w l left previous p) (typeOf p) (length (pieceOctets w l p)) (operatorsIn p) (sym is-p ∙ e)
+        ap₂ (λ x y. x && ((y && allTaken w l ps) && (risesIn w previous (typeOf p) && inOrder w (typeOf p) ps))) (leb-rest (operatorsIn p) (allOperators ps) left few) taken
+        ∙ ap (λ x. leb (allOperators ps) (left - operatorsIn p) && (allTaken w l ps && (x && inOrder w (typeOf p) ps))) rises
 
 -- ---- what is left of the words
 
@@ -139,16 +109,19 @@ module _ (w : Reading) (l : Lent) (ws : List ℕ) (n : ℕ) where
           ap (λ (j : ℕ). piecesFrom j ws (4 * i)) k ∙ pieces-more ws (4 * i) (n - (i + 1))
           ∙ ap (λ (j : ℕ). pieceAt ws (4 * i) ∷ piecesFrom (n - (i + 1)) ws j) a
 
-      pub walk-bad : fitsAfter w l left previous (pieceAt ws (4 * i)) ≡ false → restFrom i left previous body ≡ refuses 10 []
-      walk-bad e =
-          ap (λ ps. told (takenAfter w l left previous ps) (body + length (bodyOctets w l ps))) split
-          ∙ ap (λ b. told b (body + length (bodyOctets w l (pieceAt ws (4 * i) ∷ piecesFrom (n - (i + 1)) ws (4 * (i + 1))))))
-          (after-bad w l left previous (pieceAt ws (4 * i)) (piecesFrom (n - (i + 1)) ws (4 * (i + 1))) e)
+      module _ {p : Piece} (is : pieceAt ws (4 * i) ≡ p) where
+        left-from : restFrom i left previous body
+            ≡ told (takenAfter w l left previous (p ∷ piecesFrom (n - (i + 1)) ws (4 * (i + 1)))) (body + length (bodyOctets w l (p ∷ piecesFrom (n - (i + 1)) ws (4 * (i + 1)))))
+        left-from = ap (λ ps. told (takenAfter w l left previous ps) (body + length (bodyOctets w l ps))) (split ∙ ap (λ q. q ∷ piecesFrom (n - (i + 1)) ws (4 * (i + 1))) is)
 
-      pub walk-more : {t m o : ℕ} → Weighs w l left previous (pieceAt ws (4 * i)) t m o → restFrom i left previous body ≡ restFrom (i + 1) (left - o) t (body + m)
-      walk-more {t} {m} {o} g =
-          let p = pieceAt ws (4 * i) in
-          let ps = piecesFrom (n - (i + 1)) ws (4 * (i + 1)) in
-          let b : takenAfter w l left previous (p ∷ ps) ≡ takenAfter w l (left - o) t ps = after-more w l left previous p ps (g .fits) ∙ rw (g .count, g .tag) in
-          let c : body + length (bodyOctets w l (p ∷ ps)) ≡ body + m + length (bodyOctets w l ps) = omega (arith, body-longer w l p ps, g .size) in
-          ap (λ qs. told (takenAfter w l left previous qs) (body + length (bodyOctets w l qs))) split ∙ ap₂ told b c
+        pub walk-bad : weightOf w l left previous p ≡ 0 → restFrom i left previous body ≡ refuses 10 []
+        walk-bad z =
+            let ps = piecesFrom (n - (i + 1)) ws (4 * (i + 1)) in
+            left-from ∙ ap (λ b. told b (body + length (bodyOctets w l (p ∷ ps)))) (after-bad w l left previous p ps (weight-zero w l left previous p z))
+
+        pub walk-more : 0 < weightOf w l left previous p → restFrom i left previous body ≡ restFrom (i + 1) (left - operatorsIn p) (typeOf p) (body + weightOf w l left previous p)
+        walk-more s =
+            let ps = piecesFrom (n - (i + 1)) ws (4 * (i + 1)) in
+            let g = weight-some w l left previous p s in
+            let c : body + length (bodyOctets w l (p ∷ ps)) ≡ body + weightOf w l left previous p + length (bodyOctets w l ps) = omega (arith, body-longer w l p ps, g .1) in
+            left-from ∙ ap₂ told (after-more w l left previous p ps (g .0)) c

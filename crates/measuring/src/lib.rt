@@ -5,29 +5,27 @@
 ghost use mathlib.Core.Path.{_≡_};
 ghost use mathlib.Core.Bool.{true, _&&_};
 ghost use lib.Dec.{ltb, leb};
-ghost use Prim.Native.Nat.{_+_, _*_, _≤_};
+ghost use Prim.Native.Nat.{_+_, _*_, _<_, _≤_};
 ghost use lib.ListN.{length};
 ghost use Rattle.ground.specs.Picks.{pick};
+ghost use Rattle.stored.specs.Pieces.{pieceAt};
 ghost use Rattle.stored.specs.Stored.{piecesFrom};
-ghost use Rattle.listwriting.specs.Lists.{sizeIn, standardSize};
+ghost use Rattle.stored.specs.Views.{NoList};
 ghost use Rattle.measuring.specs.Bodies.{lent, prefixOctets};
 ghost use Rattle.measuring.specs.Grounds.{insideOf, prefixTaken, risesIn, bodyOf, counted, toldMeasured};
-ghost use Rattle.measuring.specs.Weights.{weighed, weighedOf, listSize};
+ghost use Rattle.measuring.specs.Weights.{weightOf, prefixWeight, plainWeight, standardWeight, otherWeight, weighing};
 use choices::Reading;
-use listwriting::ListSize;
 use refusals::Fault;
 use refusals::FlowSpecError;
 use rules::NetworkPrefix;
 use stored::Piece;
+use wide::Wide;
 
-// What a piece adds to a body, where the writing takes it.
-pub enum Weighed {
-    Takes {
-        tag: u8,
-        octets: usize,
-        operators: usize,
-    },
-    NotTaken,
+// What a component adds to a body: its octets, 0 where the writing does not take it; its type, and how many operators it names.
+pub struct Weight {
+    pub octets: usize,
+    pub tag: u8,
+    pub operators: usize,
 }
 
 // How many octets a body takes, or why there is none: BadRecord or ValueTooLarge.
@@ -101,71 +99,69 @@ fn shorter(a: usize, b: usize) -> usize
 }
 
 fn inside(values: &[u64], octets: &[u8], first: usize, start: usize, count: usize) -> bool
+    requires { ⌜ 0 < count ⌝ }
     ensures { λ r. ⌜ r ≡ insideOf (lent (now (values .entry)) (now (octets .entry)) first) start count ⌝ }
 {
-    if count == 0 {
-        return true;
-    }
     lies_below(shorter(values.len(), octets.len()), first, start, count)
 }
 
-fn plain_size(values: &[u64], octets: &[u8], first: usize, start: usize, count: usize) -> usize
-    requires { ⌜ (insideOf (lent (now values) (now octets) first) start count ≡ true) × (count ≤ 2047) ⌝ }
-    ensures { λ r. ⌜ r ≡ sizeIn (now (octets .entry)) (first + start) count ⌝ }
+// Whether a component of so many operators may follow a type, with so many left.
+pub fn may_follow(writing: Reading, left: usize, previous: u8, tag: u8, count: usize) -> bool
+    ensures { λ r. ⌜ r ≡ (leb count left && risesIn writing previous tag) ⌝ }
+{
+    if count <= left {
+        return rises(writing, previous, tag);
+    }
+    false
+}
+
+// What a list adds to a body, by the writing. A list that is not empty is measured where it lies within the lent lists.
+fn plain_list(values: &[u64], octets: &[u8], first: usize, start: usize, count: usize) -> usize
+    requires { ⌜ count ≤ 2047 ⌝ }
+    ensures { λ r. ⌜ r ≡ plainWeight (lent (now (values .entry)) (now (octets .entry)) first) start count ⌝ }
+{
+    if count == 0 {
+        return 1;
+    }
+    if !inside(values, octets, first, start, count) {
+        return 0;
+    }
+    1 + listwriting::size(octets, first + start, count)
+}
+
+// In the standard writing: a list of one operator.
+pub fn lone_list(values: &[u64], octets: &[u8], first: usize, start: usize) -> usize
+    ensures { λ r. ⌜ r ≡ standardWeight (lent (now (values .entry)) (now (octets .entry)) first) start 1 ⌝ }
+{
+    if !inside(values, octets, first, start, 1) {
+        return 0;
+    }
+    let at = first + start;
+    listwriting::one_size(octets[at], values[at])
+}
+
+// In the standard writing: a list. No entry point.
+pub fn standard_list(
+    values: &[u64],
+    octets: &[u8],
+    first: usize,
+    start: usize,
+    count: usize,
+) -> usize
+    requires { ⌜ count ≤ 2047 ⌝ }
+    ensures { λ r. ⌜ r ≡ standardWeight (lent (now (values .entry)) (now (octets .entry)) first) start count ⌝ }
 {
     if count == 0 {
         return 0;
     }
-    listwriting::size(octets, first + start, count)
-}
-
-fn standard_size(
-    values: &[u64],
-    octets: &[u8],
-    first: usize,
-    start: usize,
-    count: usize,
-) -> ListSize
-    requires { ⌜ (insideOf (lent (now values) (now octets) first) start count ≡ true) × (count ≤ 2047) ⌝ }
-    ensures { λ r. ⌜ r ≡ standardSize (now (values .entry)) (now (octets .entry)) (first + start) count ⌝ }
-{
-    if count == 0 {
-        return ListSize::NotTaken;
+    if !inside(values, octets, first, start, count) {
+        return 0;
     }
-    listwriting::standard_size(values, octets, first + start, count)
-}
-
-fn list_size(
-    writing: Reading,
-    values: &[u64],
-    octets: &[u8],
-    first: usize,
-    start: usize,
-    count: usize,
-) -> ListSize
-    requires { ⌜ (insideOf (lent (now values) (now octets) first) start count ≡ true) × (count ≤ 2047) ⌝ }
-    ensures { λ r. ⌜ r ≡ listSize writing (lent (now (values .entry)) (now (octets .entry)) first) start count ⌝ }
-{
-    match writing {
-        Reading::Plain => ListSize::Octets(plain_size(values, octets, first, start, count)),
-        Reading::Ipv4 => standard_size(values, octets, first, start, count),
-        Reading::Ipv6 => standard_size(values, octets, first, start, count),
+    let n = listwriting::taken_size(values, octets, first + start, count);
+    if n == 0 {
+        return 0;
     }
-}
-
-fn weigh_prefix(writing: Reading, previous: u8, tag: u8, prefix: NetworkPrefix) -> Weighed
-    ensures { λ r. ⌜ r ≡ weighed (prefixTaken writing prefix && risesIn writing previous tag) tag (1 + length (prefixOctets writing prefix)) 0 ⌝ }
-{
-    if prefix_taken(writing, prefix) {
-        if rises(writing, previous, tag) {
-            return Weighed::Takes {
-                tag: tag,
-                octets: 1 + prefix_size(writing, prefix),
-                operators: 0,
-            };
-        }
-    }
-    Weighed::NotTaken
+    1 + n
 }
 
 fn weigh_list(
@@ -178,56 +174,161 @@ fn weigh_list(
     tag: u8,
     start: usize,
     count: usize,
-) -> Weighed
+) -> usize
     requires { ⌜ left ≤ 2047 ⌝ }
-    ensures { λ r. ⌜ r ≡ weighedOf writing (lent (now (values .entry)) (now (octets .entry)) first) left previous (Piece.Operators tag start count) ⌝ }
+    ensures { λ r. ⌜ r ≡ weightOf writing (lent (now (values .entry)) (now (octets .entry)) first) left previous (Piece.Operators tag start count) ⌝ }
 {
-    if count <= left {
-        if inside(values, octets, first, start, count) {
-            if rises(writing, previous, tag) {
-                let size = list_size(writing, values, octets, first, start, count);
-                let ListSize::Octets(n) = size else {
-                    return Weighed::NotTaken;
-                };
-                return Weighed::Takes {
-                    tag: tag,
-                    octets: 1 + n,
-                    operators: count,
-                };
+    if !may_follow(writing, left, previous, tag, count) {
+        return 0;
+    }
+    match writing {
+        Reading::Plain => plain_list(values, octets, first, start, count),
+        _ => {
+            if count == 1 {
+                return lone_list(values, octets, first, start);
             }
+            standard_list(values, octets, first, start, count)
         }
     }
-    Weighed::NotTaken
 }
 
-// What a piece adds to a body, with so many operators left and after a type.
-fn weigh(
+// What a prefix adds to a body, after a type: any prefix, and the two forms that are common.
+pub fn weigh_prefix(writing: Reading, previous: u8, tag: u8, prefix: NetworkPrefix) -> usize
+    ensures { λ r. ⌜ r ≡ prefixWeight writing previous tag prefix ⌝ }
+{
+    if prefix_taken(writing, prefix) {
+        if rises(writing, previous, tag) {
+            return 1 + prefix_size(writing, prefix);
+        }
+    }
+    0
+}
+
+pub fn weigh_ipv4(writing: Reading, previous: u8, tag: u8, len: u8, address: u32) -> usize
+    ensures { λ r. ⌜ r ≡ prefixWeight writing previous tag (NetworkPrefix.Ipv4 len address) ⌝ }
+{
+    if 32 < len {
+        return 0;
+    }
+    if !rises(writing, previous, tag) {
+        return 0;
+    }
+    match writing {
+        Reading::Plain => 2 + prefixes::octets_of(len),
+        Reading::Ipv4 => {
+            if octets::keep_ipv4(address, len) != address {
+                return 0;
+            }
+            2 + prefixes::octets_of(len)
+        }
+        Reading::Ipv6 => 0,
+    }
+}
+
+pub fn weigh_ipv6(
     writing: Reading,
+    previous: u8,
+    tag: u8,
+    len: u8,
+    off: u8,
+    high: u64,
+    low: u64,
+) -> usize
+    ensures { λ r. ⌜ r ≡ prefixWeight writing previous tag (NetworkPrefix.Ipv6Offset len off high low) ⌝ }
+{
+    if !rises(writing, previous, tag) {
+        return 0;
+    }
+    match writing {
+        Reading::Plain => {
+            if 128 < len {
+                return 0;
+            }
+            3 + prefixes::octets_of(len)
+        }
+        Reading::Ipv4 => 0,
+        Reading::Ipv6 => {
+            if prefixes::valid_ipv6(
+                len,
+                off,
+                Wide {
+                    high: high,
+                    low: low,
+                },
+            ) {
+                return 3 + prefixes::octets_of(len - off);
+            }
+            0
+        }
+    }
+}
+
+// A component that is no list.
+fn weigh_other(writing: Reading, previous: u8, piece: Piece) -> Weight
+    requires { ⌜ NoList piece ⌝ }
+    ensures { λ r. ⌜ r ≡ weighing (otherWeight writing previous piece) piece ⌝ }
+{
+    match piece {
+        Piece::Prefix { tag, prefix } => Weight {
+            octets: weigh_prefix(writing, previous, tag, prefix),
+            tag: tag,
+            operators: 0,
+        },
+        _ => Weight {
+            octets: 0,
+            tag: 0,
+            operators: 0,
+        },
+    }
+}
+
+// The component at a word, with so many operators left and after a type.
+fn weigh_at(
+    writing: Reading,
+    words: &[u64],
+    at: usize,
     values: &[u64],
     octets: &[u8],
     first: usize,
     left: usize,
     previous: u8,
-    piece: Piece,
-) -> Weighed
-    requires { ⌜ left ≤ 2047 ⌝ }
-    ensures { λ r. ⌜ r ≡ weighedOf writing (lent (now (values .entry)) (now (octets .entry)) first) left previous piece ⌝ }
+) -> Weight
+    requires { ⌜ (at + 4 ≤ length (now words)) × (left ≤ 2047) ⌝ }
+    ensures { λ r. ⌜ r ≡ weighing (weightOf writing (lent (now (values .entry)) (now (octets .entry)) first) left previous (pieceAt (now (words .entry)) at)) (pieceAt (now (words .entry)) at) ⌝ }
 {
-    match piece {
-        Piece::Prefix { tag, prefix } => weigh_prefix(writing, previous, tag, prefix),
-        Piece::Operators { tag, start, count } => weigh_list(
-            writing,
-            values,
-            octets,
-            first,
-            left,
-            previous,
-            tag,
-            start,
-            count,
-        ),
-        Piece::NoRecord => Weighed::NotTaken,
+    let v = stored::view_at(words, at);
+    if v.form == 1 {
+        return Weight {
+            octets: weigh_list(
+                writing,
+                values,
+                octets,
+                first,
+                left,
+                previous,
+                v.tag,
+                v.start,
+                v.count,
+            ),
+            tag: v.tag,
+            operators: v.count,
+        };
     }
+    if v.form == 2 {
+        return Weight {
+            octets: weigh_ipv4(writing, previous, v.tag, v.length, v.address),
+            tag: v.tag,
+            operators: 0,
+        };
+    }
+    if v.form == 3 {
+        return Weight {
+            octets: weigh_ipv6(writing, previous, v.tag, v.length, v.offset, v.high, v.low),
+            tag: v.tag,
+            operators: 0,
+        };
+    }
+    weigh_other(writing, previous, stored::piece_at(words, at))
 }
 
 // The first walk, over so many components at the front of the words. No entry point.
@@ -247,21 +348,15 @@ pub fn measure_body(
     let mut previous: u8 = 0;
     let mut i: usize = 0;
     while i < count {
-        let piece = stored::piece_at(words, 4 * i);
-        let w = weigh(writing, values, octets, first, left, previous, piece);
-        let Weighed::Takes {
-            tag,
-            octets: n,
-            operators,
-        } = w
-        else {
+        let w = weigh_at(writing, words, 4 * i, values, octets, first, left, previous);
+        if w.octets == 0 {
             return Measured::Refused(Fault {
                 error: FlowSpecError::BadRecord,
             });
-        };
-        body += n;
-        left -= operators;
-        previous = tag;
+        }
+        body += w.octets;
+        left -= w.operators;
+        previous = w.tag;
         i += 1;
     }
     if 4095 < body {

@@ -9,6 +9,7 @@ ghost use Prim.Native.Nat.{_+_, _-_, _*_, _^_, _<_, _≤_};
 ghost use lib.ListN.{length};
 ghost use Rattle.ground.specs.Answers.{accepts};
 ghost use Rattle.wide.specs.Numbers.{num, wideOf};
+ghost use Rattle.rules.specs.declared.NetworkPrefix.the-variants.{Ipv6Offset as ipv6_offset};
 ghost use Rattle.prefixes.specs.Prefixes.{octetsOf, offsetFits, extentOf, octetsAt, extentAt, toldExtent, frontAddress, plainPrefix, ipv4Prefix, ipv6Prefix, prefixFrom, prefixAt, toldPrefix, isExtent, Stands};
 ghost use Rattle.prefixes.specs.Forms.{inRange, clean, validIn};
 use choices::Reading;
@@ -289,6 +290,16 @@ fn clean_ipv6(len: u8, off: u8, w: Wide) -> bool
     }
 }
 
+// Whether the standard writing of IPv6 takes an address with a length and an offset.
+pub fn valid_ipv6(len: u8, off: u8, w: Wide) -> bool
+    ensures { λ r. ⌜ r ≡ validIn 6 (ipv6_offset len off (w .high) (w .low)) ⌝ }
+{
+    if offset_fits(len, off) {
+        return clean_ipv6(len, off, w);
+    }
+    false
+}
+
 // Whether the standard writing of a family takes a prefix.
 pub fn valid(family: u8, prefix: NetworkPrefix) -> bool
     ensures { λ r. ⌜ r ≡ validIn family prefix ⌝ }
@@ -309,16 +320,14 @@ pub fn valid(family: u8, prefix: NetworkPrefix) -> bool
             low,
         } => {
             if family == 6 {
-                if offset_fits(length, offset) {
-                    return clean_ipv6(
-                        length,
-                        offset,
-                        Wide {
-                            high: high,
-                            low: low,
-                        },
-                    );
-                }
+                return valid_ipv6(
+                    length,
+                    offset,
+                    Wide {
+                        high: high,
+                        low: low,
+                    },
+                );
             }
             false
         }

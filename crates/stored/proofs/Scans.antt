@@ -1,5 +1,5 @@
 -- Words that are all 0: their bits joined are 0.
-use Prim.Native.Nat.{ℕ, suc, _+_, _-_, _≤_, _<_}
+use Prim.Native.Nat.{ℕ, suc, _+_, _-_, _*_, _≤_, _<_}
 use mathlib.Core.Path.{_≡_, refl, sym, ap, _∙_}
 use mathlib.Core.Bool.{Bool, true, false, _&&_, false≢true}
 use mathlib.Core.List.{List}
@@ -45,3 +45,26 @@ module _ (ws : List ℕ) (sum at to : ℕ) where
   pub scan-end : to ≤ at → (eqb sum 0 && zerosFrom (to - at) ws at) ≡ eqb sum 0
   unfolding zerosFrom
   scan-end h = let e : to - at ≡ 0 = omega arith in ap (λ (k : ℕ). eqb sum 0 && zerosFrom k ws at) e ∙ and-true (eqb sum 0)
+
+-- a group of four words
+module _ (ws : List ℕ) (at to : ℕ) where
+  step : (sum k next : ℕ) → at + k + 1 ≡ next → at + k < to → (eqb sum 0 && zerosFrom (to - (at + k)) ws (at + k)) ≡ (eqb (bitOr sum (getD ws (at + k) 0)) 0 && zerosFrom (to - next) ws next)
+  step sum k next e h = scan-more ws sum (at + k) to h ∙ ap (λ (j : ℕ). eqb (bitOr sum (getD ws (at + k) 0)) 0 && zerosFrom (to - j) ws j) e
+
+  pub scan-four : (sum next : ℕ) → at + 4 ≡ next → next ≤ to
+      → (eqb sum 0 && zerosFrom (to - at) ws at)
+      ≡ (eqb (bitOr (bitOr (bitOr (bitOr sum (getD ws at 0)) (getD ws (at + 1) 0)) (getD ws (at + 2) 0)) (getD ws (at + 3) 0)) 0 && zerosFrom (to - next) ws next)
+  scan-four sum next e h =
+      scan-more ws sum at to (omega arith)
+      ∙ step (bitOr sum (getD ws at 0)) 1 (at + 2) (omega arith) (omega arith)
+      ∙ step (bitOr (bitOr sum (getD ws at 0)) (getD ws (at + 1) 0)) 2 (at + 3) (omega arith) (omega arith)
+      ∙ step (bitOr (bitOr (bitOr sum (getD ws at 0)) (getD ws (at + 1) 0)) (getD ws (at + 2) 0)) 3 next (omega arith) (omega arith)
+
+-- the last nine words of a rule: one, and two groups
+pub last-nine : (ws : List ℕ) (base r : ℕ) → zerosFrom (base + 4 * 16 - (base + 4 * 14)) ws (base + 4 * 14) ≡ eqb r 0 → zerosFrom 9 ws (base + 55) ≡ eqb (bitOr (getD ws (base + 55) 0) r) 0
+unfolding zerosFrom
+last-nine ws base r e =
+    let n : 8 ≡ base + 4 * 16 - (base + 4 * 14) = omega arith in
+    let p : base + 55 + 1 ≡ base + 4 * 14 = omega arith in
+    ap (λ t. eqb (getD ws (base + 55) 0) 0 && t) (ap (λ (k : ℕ). zerosFrom k ws (base + 55 + 1)) n ∙ ap (λ (j : ℕ). zerosFrom (base + 4 * 16 - (base + 4 * 14)) ws j) p ∙ e)
+    ∙ sym (or-none (getD ws (base + 55) 0) r)

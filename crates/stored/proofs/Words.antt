@@ -202,9 +202,6 @@ module _ (ws : List ℕ) (at : ℕ) where
   pub unused : (n : ℕ) → zerosFrom (at + 52 - (at + 4 * n)) ws (at + 4 * n) ≡ zerosFrom (52 - 4 * n) ws (at + 4 * n)
   unused n = let e : at + 52 - (at + 4 * n) ≡ 52 - 4 * n = omega arith in ap (λ (j : ℕ). zerosFrom j ws (at + 4 * n)) e
 
-  pub last : zerosFrom (at + 64 - (at + 55)) ws (at + 55) ≡ zerosFrom 9 ws (at + 55)
-  last = let e : at + 64 - (at + 55) ≡ 9 = omega arith in ap (λ (j : ℕ). zerosFrom j ws (at + 55)) e
-
   pub record Framed : Type 0 where
     pub few : countAt ws at ≤ 13
     pub family : familyAt ws at < 256

@@ -5,6 +5,7 @@
 ghost use mathlib.Core.Path.{_≡_};
 ghost use mathlib.Core.List.{_∷_, []};
 ghost use Prim.Native.Nat.{_+_, _-_, _*_, _%_, _≤_, _<_};
+ghost use lib.Dec.{eqb};
 ghost use lib.ListN.{length, replicate};
 ghost use lib.Seq.{sets};
 ghost use Rattle.stored.specs.Pieces.{prefixQuad, quadOf, pieceWords, networkOf, sameQuad, quadAt, pieceOf, pieceAt, isRecord};
@@ -355,18 +356,42 @@ fn all_records(words: &[u64], base: usize, count: usize) -> bool
     true
 }
 
-// Whether the words from one up to another are all 0. With no way out of the loop, it goes four words at a time.
-fn all_zero(words: &[u64], from: usize, to: usize) -> bool
-    requires { ⌜ (from ≤ to) × (to ≤ length (now words)) ⌝ }
-    ensures { λ r. ⌜ r ≡ zerosFrom (to - from) (now (words .entry)) from ⌝ }
+// All bits of the groups of four words from one group up to another. With no way out of the loop, it goes many words at a time.
+fn joined_groups(words: &[u64], base: usize, from: usize, to: usize) -> u64
+    requires { ⌜ (from ≤ to) × (to ≤ 16) × (base + 64 ≤ length (now words)) ⌝ }
+    ensures { λ r. ⌜ zerosFrom (base + 4 * to - (base + 4 * from)) (now (words .entry)) (base + 4 * from) ≡ eqb r 0 ⌝ }
 {
     let mut sum: u64 = 0;
-    let mut at = from;
-    while at < to {
-        sum = sum | words[at];
-        at += 1;
+    let mut g = from;
+    while g < to {
+        let at = base + 4 * g;
+        sum = sum | words[at] | words[at + 1] | words[at + 2] | words[at + 3];
+        g += 1;
     }
-    sum == 0
+    sum
+}
+
+// All bits of the components past the count. Where that is a constant, the loop goes without a turn: nearly every rule has so few.
+fn joined_unused(words: &[u64], base: usize, count: usize) -> u64
+    requires { ⌜ (count ≤ 13) × (base + 64 ≤ length (now words)) ⌝ }
+    ensures { λ r. ⌜ zerosFrom (base + 52 - (base + 4 * count)) (now (words .entry)) (base + 4 * count) ≡ eqb r 0 ⌝ }
+{
+    match count {
+        1 => joined_groups(words, base, 1, 13),
+        2 => joined_groups(words, base, 2, 13),
+        3 => joined_groups(words, base, 3, 13),
+        4 => joined_groups(words, base, 4, 13),
+        5 => joined_groups(words, base, 5, 13),
+        _ => joined_groups(words, base, count, 13),
+    }
+}
+
+// All bits of the last nine words.
+fn joined_last(words: &[u64], base: usize) -> u64
+    requires { ⌜ base + 64 ≤ length (now words) ⌝ }
+    ensures { λ r. ⌜ zerosFrom 9 (now (words .entry)) (base + 55) ≡ eqb r 0 ⌝ }
+{
+    words[base + 55] | joined_groups(words, base, 14, 16)
 }
 
 // How many components the 64 words from a word on count. No entry point.
@@ -405,10 +430,7 @@ pub fn is_framed(words: &[u64], base: usize) -> bool
     if 255 < words[base + 53] {
         return false;
     }
-    if !all_zero(words, base + 4 * count, base + 52) {
-        return false;
-    }
-    all_zero(words, base + 55, base + 64)
+    joined_unused(words, base, count) | joined_last(words, base) == 0
 }
 
 // Whether the 64 words from a word on are a rule. No entry point.

@@ -1,10 +1,11 @@
 -- `measuring::inside` meets its contract: one bound for both lists.
 use Prim.Native.Nat.{ℕ, _+_}
 use mathlib.Core.Path.{sym, ap, _∙_}
+use native.Mathlib.Omega.{arith}
 use lib.Dec.{leb}
 use lib.ListN.{length}
 use Rattle.measuring.specs.Bodies.{lent}
-use Rattle.measuring.proofs.Insides.{below-shorter, inside-none, inside-by}
+use Rattle.measuring.proofs.Insides.{below-shorter, inside-by}
 use borrow.Author.Needs.{needs}
 use Rattle.measuring.proofs.inside.Statement.{statement}
 use Rattle.measuring.proofs.inside.Tie as tie
@@ -14,18 +15,16 @@ use Rattle.measuring.proofs.lies_below.Reads as lies-below-reads
 use Rattle.measuring.proofs.shorter.Reads as shorter-reads
 
 returns : tie.Need-returns
-returns c = let a = c .before .before .before .args in inside-none (lent (a .values .now) (a .octets .now) (a .first)) (a .start) (a .count) (c .if1 .taken)
-
-returns-2 : tie.Need-returns-2
-returns-2 c =
-    let e = c .before .before in
-    let a = e .before .before .before .args in
+returns c =
+    let a = c .before .before .before .before .args in
     let n = a .first + a .start + a .count in
     c .lies-below .ensures ∙ ap (λ (b : ℕ). leb n b) (c .before .shorter .ensures) ∙ below-shorter n (length (a .values .now)) (length (a .octets .now))
-    ∙ sym (inside-by (lent (a .values .now) (a .octets .now) (a .first)) (a .start) (a .count) (e .if1 .left))
+    ∙ sym (inside-by (lent (a .values .now) (a .octets .now) (a .first)) (a .start) (a .count) (λ z. omega arith))
 
 pub inside-spec : {M : Type 1} → statement M
-inside-spec = tie.close (tie.spec returns
+inside-spec =
+    tie.close
+    (tie.spec
     (λ c κs. search needs)
     (λ c κs. search needs)
-    returns-2)
+    returns)
