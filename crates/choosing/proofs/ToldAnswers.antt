@@ -1,71 +1,59 @@
--- What the two passes tell of the answer.
+-- What the pass tells of the answer.
 use Prim.Native.Nat.{ℕ, _≤_, _<_}
-use mathlib.Core.Path.{_≡_, refl, sym, _∙_}
-use mathlib.Core.Bool.{true, false}
+use mathlib.Core.Path.{_≡_, refl, sym, ap, _∙_}
+use mathlib.Core.Bool.{Bool, true, false, not, true≢false}
 use mathlib.Core.List.{[], _∷_}
-use native.Mathlib.Omega.{arith}
-use borrow.Author.Tests.{le-ltb}
+use borrow.Author.Tests.{not-true, le-ltb}
 use Rattle.ground.specs.Answers.{Answer, accepts, refuses}
-use Rattle.ground.proofs.Cases.{by-test}
 use Rattle.packets.specs.Packets.{Packet, packetOk}
-use Rattle.choosing.specs.declared.Tested.the-variants.{Formed, BadRecord}
+use Rattle.choosing.specs.declared.Found.{Found}
 use Rattle.choosing.specs.Choosing.{Table, rulesIn, wholeRules, formedAt, familyIs, Choice, place, none, Decided, allBelow, firstFailing, bestBelow, unmixed, chosenIn}
-use Rattle.choosing.specs.Passes.{placeOr, testedBelow}
+use Rattle.choosing.specs.Passes.{placeOr, foundIf, foundBelow}
 use Rattle.choosing.proofs.Passes.{failing-below, best-below, told-place, told-none}
 use Rattle.choosing.proofs.Demand3.{decided}
 
-inside : {a b : ℕ} → Formed a ≡ Formed b → a ≡ b
-inside e = cc
-
--- the first pass found all well-formed, or not
-pub tested-formed : (t : Table) (family n mixed : ℕ) → testedBelow t family n ≡ Formed mixed
-    → (allBelow (formedAt t) n ≡ true) × (mixed ≡ placeOr n (firstFailing (familyIs t family) n))
-unfolding testedBelow
-tested-formed t family n mixed e =
-    by-test (allBelow (formedAt t) n)
-    (λ h. (h, sym (inside (rw h at e))))
-    (λ h. let z : _≡_ {A = ℕ} 0 1 = cc (rw h at e) in absurd (omega arith))
-
-pub tested-bad : (t : Table) (family n : ℕ) → testedBelow t family n ≡ BadRecord → allBelow (formedAt t) n ≡ false
-unfolding testedBelow
-tested-bad t family n e =
-    by-test (allBelow (formedAt t) n)
-    (λ h. let z : _≡_ {A = ℕ} 0 1 = cc (rw h at e) in absurd (omega arith))
-    (λ h. h)
-
--- what was found before the passes
+-- what was found before the pass
 pub record Ready (t : Table) (p : Packet) : Type 0 where
   pub few : rulesIn t ≤ 64
   pub in-range : packetOk p ≡ true
   pub whole : wholeRules t ≡ true
 
-pub tells-bad : (t : Table) (p : Packet) → Ready t p → testedBelow t (p .family) (rulesIn t) ≡ BadRecord → refuses 10 [] ≡ chosenIn t p
-unfolding chosenIn
-tells-bad t p h e = rw (le-ltb 64 (rulesIn t) (h .few), h .in-range, h .whole, tested-bad t (p .family) (rulesIn t) e) refl
+-- and by it: all well-formed, or not
+found-formed : (b : Bool) (n mixed best : ℕ) (f : Found) → f ≡ foundIf b n mixed best → not (f .formed) ≡ false → (b ≡ true) × (f .mixed ≡ mixed) × (f .best ≡ best)
+found-formed true n mixed best f e g = (refl, ap (λ (x : Found). x .mixed) e, ap (λ (x : Found). x .best) e)
+found-formed false n mixed best f e g = absurd (true≢false (sym (ap (λ (x : Found). not (x .formed)) e) ∙ g))
 
-tells : (t : Table) (p : Packet) → Ready t p → allBelow (formedAt t) (rulesIn t) ≡ true → (c d : Choice) → firstFailing (familyIs t (p .family)) (rulesIn t) ≡ c
-    → bestBelow t p (rulesIn t) ≡ d → unmixed c (accepts d) ≡ chosenIn t p
-unfolding chosenIn
-tells t p h a c d e f = rw (le-ltb 64 (rulesIn t) (h .few), h .in-range, h .whole, a, e, f) refl
+module _ (t : Table) (p : Packet) (h : Ready t p) (f : Found) (e : f ≡ foundBelow t p (p .family) (rulesIn t)) where
+  pub tells-bad : not (f .formed) ≡ true → refuses 10 [] ≡ chosenIn t p
+  unfolding chosenIn foundBelow
+  tells-bad g =
+      let a : allBelow (formedAt t) (rulesIn t) ≡ false = sym (ap (λ (x : Found). x .formed) e) ∙ not-true (f .formed) g in
+      rw (le-ltb 64 (rulesIn t) (h .few), h .in-range, h .whole, a) refl
 
-pub tells-mixed : (t : Table) (p : Packet) → Ready t p → (mixed : ℕ) → testedBelow t (p .family) (rulesIn t) ≡ Formed mixed → mixed < rulesIn t
-    → refuses 14 (mixed ∷ []) ≡ chosenIn t p
-tells-mixed t p h mixed e l =
-    let f = tested-formed t (p .family) (rulesIn t) mixed e in
-    tells t p h (f .0) (place mixed) (bestBelow t p (rulesIn t)) (told-place (rulesIn t) (firstFailing (familyIs t (p .family)) (rulesIn t)) mixed (f .1) l) refl
+  module _ (g : not (f .formed) ≡ false) where
+    shows : (allBelow (formedAt t) (rulesIn t) ≡ true) × (f .mixed ≡ placeOr (rulesIn t) (firstFailing (familyIs t (p .family)) (rulesIn t)))
+        × (f .best ≡ placeOr (rulesIn t) (bestBelow t p (rulesIn t)))
+    unfolding foundBelow
+    shows = found-formed (allBelow (formedAt t) (rulesIn t)) (rulesIn t) _ _ f e g
 
--- no rule of another family: the second pass tells the answer
-pub tells-best : (t : Table) (p : Packet) → Ready t p → (mixed : ℕ) → testedBelow t (p .family) (rulesIn t) ≡ Formed mixed → rulesIn t ≤ mixed → (c : Choice)
-    → bestBelow t p (rulesIn t) ≡ c → accepts c ≡ chosenIn t p
-tells-best t p h mixed e l c q =
-    let f = tested-formed t (p .family) (rulesIn t) mixed e in
-    tells t p h (f .0) none c (told-none (rulesIn t) (firstFailing (familyIs t (p .family)) (rulesIn t)) mixed (failing-below (familyIs t (p .family)) (rulesIn t)) (f .1) l) q
+    tells : (c d : Choice) → firstFailing (familyIs t (p .family)) (rulesIn t) ≡ c → bestBelow t p (rulesIn t) ≡ d → unmixed c (accepts d) ≡ chosenIn t p
+    unfolding chosenIn
+    tells c d k q = rw (le-ltb 64 (rulesIn t) (h .few), h .in-range, h .whole, shows .0, k, q) refl
 
-pub best-is : (t : Table) (p : Packet) (best : ℕ) → best ≡ placeOr (rulesIn t) (bestBelow t p (rulesIn t)) → best < rulesIn t → bestBelow t p (rulesIn t) ≡ place best
-best-is t p best e l = told-place (rulesIn t) (bestBelow t p (rulesIn t)) best e l
+    pub tells-mixed : f .mixed < rulesIn t → refuses 14 (f .mixed ∷ []) ≡ chosenIn t p
+    tells-mixed l =
+        tells (place (f .mixed)) (bestBelow t p (rulesIn t)) (told-place (rulesIn t) (firstFailing (familyIs t (p .family)) (rulesIn t)) (f .mixed) (shows .1) l) refl
 
-pub best-none : (t : Table) (p : Packet) (best : ℕ) → best ≡ placeOr (rulesIn t) (bestBelow t p (rulesIn t)) → rulesIn t ≤ best → bestBelow t p (rulesIn t) ≡ none
-best-none t p best e l = told-none (rulesIn t) (bestBelow t p (rulesIn t)) best (best-below t p (rulesIn t)) e l
+    -- no rule of another family: the best is the answer
+    module _ (l : rulesIn t ≤ f .mixed) where
+      unmixed-is : firstFailing (familyIs t (p .family)) (rulesIn t) ≡ none
+      unmixed-is = told-none (rulesIn t) (firstFailing (familyIs t (p .family)) (rulesIn t)) (f .mixed) (failing-below (familyIs t (p .family)) (rulesIn t)) (shows .1) l
+
+      pub tells-rule : f .best < rulesIn t → accepts (place (f .best)) ≡ chosenIn t p
+      tells-rule k = tells none (place (f .best)) unmixed-is (told-place (rulesIn t) (bestBelow t p (rulesIn t)) (f .best) (shows .2) k)
+
+      pub tells-none : rulesIn t ≤ f .best → accepts none ≡ chosenIn t p
+      tells-none k = tells none none unmixed-is (told-none (rulesIn t) (bestBelow t p (rulesIn t)) (f .best) (best-below t p (rulesIn t)) (shows .2) k)
 
 -- both promises of the chooser from the first
 pub promised : (t : Table) (p : Packet) {a b : Answer Choice} → a ≡ b → b ≡ chosenIn t p → (a ≡ chosenIn t p) × Decided t p a

@@ -1,5 +1,5 @@
-// The chooser: which of the stored rules decides on a packet. One pass over the rules tests them, a second one finds the answer; nothing of
-// the table is copied.
+// The chooser: which of the stored rules decides on a packet. One pass over the rules tests them and finds the answer; nothing of the table is
+// copied.
 //
 // The functions with a `requires` are no entry points.
 ghost use mathlib.Core.Path.{_≡_};
@@ -7,8 +7,8 @@ ghost use mathlib.Core.Bool.{true};
 ghost use Prim.Native.Nat.{_+_, _*_, _≤_, _<_};
 ghost use lib.ListN.{length};
 ghost use Rattle.packets.specs.Packets.{packetOk, packetAt};
-ghost use Rattle.choosing.specs.Choosing.{table, bestBelow, chosenIn, toldChosen, Decided};
-ghost use Rattle.choosing.specs.Passes.{AllFormed, placeOr, foundOr, testedBelow, betterOf};
+ghost use Rattle.choosing.specs.Choosing.{table, formedAt, chosenIn, toldChosen, Decided};
+ghost use Rattle.choosing.specs.Passes.{foundOr, betterOf, foundBelow};
 use ranking::Order;
 use refusals::Fault;
 use refusals::FlowSpecError;
@@ -20,10 +20,12 @@ pub enum Chosen {
     Refused(Fault),
 }
 
-// What the first pass finds: all rules well-formed, with the first place of another family, or the number of rules where there is none.
-pub enum Tested {
-    Formed { mixed: usize },
-    BadRecord,
+// What the pass finds: whether all rules are well-formed, and where they are, the first place of another family and the place of the rule that
+// decides; the number of rules where there is none.
+pub struct Found {
+    pub formed: bool,
+    pub mixed: usize,
+    pub best: usize,
 }
 
 // A place that was found stays; else this one, where it fails.
@@ -40,39 +42,22 @@ fn first_failing(found: usize, n: usize, i: usize, same: bool) -> usize
     i
 }
 
-// The first pass: every rule is tested, since BadRecord goes before MixedFamily.
-fn test_rules(words: &[u64], values: &[u64], octets: &[u8], family: u64, n: usize) -> Tested
-    requires { ⌜ 64 * n ≤ length (now words) ⌝ }
-    ensures { λ r. ⌜ r ≡ testedBelow (table (now (words .entry)) (now (values .entry)) (now (octets .entry))) family n ⌝ }
-{
-    let mut mixed = n;
-    let mut i: usize = 0;
-    while i < n {
-        if !verdicts::well_formed(words, 64 * i, values, octets) {
-            return Tested::BadRecord;
-        }
-        mixed = first_failing(mixed, n, i, stored::family_at(words, 64 * i) == family);
-        i += 1;
-    }
-    Tested::Formed { mixed: mixed }
-}
-
-// The better of the best so far, n where there is none, and the rule at a place.
+// The better of the best so far, n where there is none, and the rule at a place, where it is met.
 fn better(
     words: &[u64],
     values: &[u64],
     octets: &[u8],
-    packet: &[u64],
     n: usize,
     best: usize,
     i: usize,
+    met: bool,
 ) -> usize
-    requires formed { ⌜ AllFormed (table (now words) (now values) (now octets)) n ⌝ }
-    requires packet { ⌜ packetOk (packetAt (now packet)) ≡ true ⌝ }
-    requires place { ⌜ (64 * n ≤ length (now words)) × (i < n) × (best ≤ n) ⌝ }
-    ensures { λ r. ⌜ r ≡ betterOf (table (now (words .entry)) (now (values .entry)) (now (octets .entry))) (packetAt (now (packet .entry))) n best i ⌝ }
+    requires formed { ⌜ formedAt (table (now words) (now values) (now octets)) i ≡ true ⌝ }
+    requires best { ⌜ (best < n → formedAt (table (now words) (now values) (now octets)) best ≡ true) ⌝ }
+    requires place { ⌜ (64 * n ≤ length (now words)) × (i < n) ⌝ }
+    ensures { λ r. ⌜ r ≡ betterOf (table (now (words .entry)) (now (values .entry)) (now (octets .entry))) n best i met ⌝ }
 {
-    if !matching::rule_matches(words, 64 * i, values, octets, packet) {
+    if !met {
         return best;
     }
     if n <= best {
@@ -94,20 +79,40 @@ fn better(
     }
 }
 
-// The second pass: the place of the rule that decides, n where none matches.
-fn find_best(words: &[u64], values: &[u64], octets: &[u8], packet: &[u64], n: usize) -> usize
-    requires formed { ⌜ AllFormed (table (now words) (now values) (now octets)) n ⌝ }
+// The pass: every rule is tested, since BadRecord goes before MixedFamily.
+fn find(
+    words: &[u64],
+    values: &[u64],
+    octets: &[u8],
+    packet: &[u64],
+    family: u64,
+    n: usize,
+) -> Found
     requires packet { ⌜ packetOk (packetAt (now packet)) ≡ true ⌝ }
     requires place { ⌜ 64 * n ≤ length (now words) ⌝ }
-    ensures { λ r. ⌜ r ≡ placeOr n (bestBelow (table (now (words .entry)) (now (values .entry)) (now (octets .entry))) (packetAt (now (packet .entry))) n) ⌝ }
+    ensures { λ r. ⌜ r ≡ foundBelow (table (now (words .entry)) (now (values .entry)) (now (octets .entry))) (packetAt (now (packet .entry))) family n ⌝ }
 {
+    let mut mixed = n;
     let mut best = n;
     let mut i: usize = 0;
     while i < n {
-        best = better(words, values, octets, packet, n, best, i);
+        let j = verdicts::judge(words, 64 * i, values, octets, packet, true);
+        if !j.formed {
+            return Found {
+                formed: false,
+                mixed: n,
+                best: n,
+            };
+        }
+        mixed = first_failing(mixed, n, i, stored::family_at(words, 64 * i) == family);
+        best = better(words, values, octets, n, best, i, j.met);
         i += 1;
     }
-    best
+    Found {
+        formed: true,
+        mixed: mixed,
+        best: best,
+    }
 }
 
 fn refused(error: FlowSpecError) -> Chosen
@@ -132,13 +137,15 @@ pub fn choose(words: &[u64], values: &[u64], octets: &[u8], packet: &[u64]) -> C
         return refused(FlowSpecError::BadRecord);
     }
     let family = packets::family_of(packet);
-    let Tested::Formed { mixed } = test_rules(words, values, octets, family, n) else {
+    let f = find(words, values, octets, packet, family, n);
+    if !f.formed {
         return refused(FlowSpecError::BadRecord);
-    };
+    }
+    let mixed = f.mixed;
     if mixed < n {
         return refused(FlowSpecError::MixedFamily(mixed));
     }
-    let best = find_best(words, values, octets, packet, n);
+    let best = f.best;
     if best < n {
         return Chosen::Rule(best);
     }

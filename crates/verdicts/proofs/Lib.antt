@@ -1,3 +1,5 @@
+pub mod Judging
 pub mod Once
 pub mod RestOfWords
+pub mod Steps
 pub mod WellFormed

@@ -9,7 +9,7 @@ use lib.ListN.{getD, drop}
 use lib.Seq.{getD-drop}
 use Rattle.stored.specs.declared.Piece.{Piece}
 use Rattle.stored.specs.Pieces.{isRecord, pieceOf, pieceAt}
-use Rattle.stored.specs.Stored.{storedRule, countAt, familyAt, headAt, head, piecesFrom, recordsFrom, zerosFrom, isFramed, isRule, storedAt}
+use Rattle.stored.specs.Stored.{storedRule, countAt, familyAt, firstAt, headAt, head, piecesFrom, recordsFrom, zerosFrom, isFramed, isRule, storedAt}
 
 module _ (at : ℕ) (ws : List ℕ) where
   abbrev rest : List ℕ
@@ -21,19 +21,19 @@ module _ (at : ℕ) (ws : List ℕ) where
   word : (i k : ℕ) → getD rest (i + k) 0 ≡ getD ws (at + i + k) 0
   word i k = getD-drop at ws (i + k) 0 ∙ ap (λ (j : ℕ). getD ws j 0) (next i k)
 
-  piece : (i : ℕ) → pieceAt rest i ≡ pieceAt ws (at + i)
+  pub piece-rest : (i : ℕ) → pieceAt rest i ≡ pieceAt ws (at + i)
   unfolding pieceAt
-  piece i = ap pieceOf (rw (getD-drop at ws i 0, word i 1, word i 2, word i 3))
+  piece-rest i = ap pieceOf (rw (getD-drop at ws i 0, word i 1, word i 2, word i 3))
 
   pieces : (n i : ℕ) → piecesFrom n rest i ≡ piecesFrom n ws (at + i)
   unfolding piecesFrom
   pieces zero i = refl
-  pieces (suc n) i = ap₂ (λ (p : Piece) (ps : List Piece). p ∷ ps) (piece i) (pieces n (i + 4) ∙ ap (piecesFrom n ws) (next i 4))
+  pieces (suc n) i = ap₂ (λ (p : Piece) (ps : List Piece). p ∷ ps) (piece-rest i) (pieces n (i + 4) ∙ ap (piecesFrom n ws) (next i 4))
 
   records : (n i : ℕ) → recordsFrom n rest i ≡ recordsFrom n ws (at + i)
   unfolding recordsFrom
   records zero i = refl
-  records (suc n) i = ap₂ (λ (p : Piece) (b : Bool). isRecord p && b) (piece i) (records n (i + 4) ∙ ap (recordsFrom n ws) (next i 4))
+  records (suc n) i = ap₂ (λ (p : Piece) (b : Bool). isRecord p && b) (piece-rest i) (records n (i + 4) ∙ ap (recordsFrom n ws) (next i 4))
 
   zeros : (n i : ℕ) → zerosFrom n rest i ≡ zerosFrom n ws (at + i)
   unfolding zerosFrom
@@ -46,28 +46,34 @@ module _ (at : ℕ) (ws : List ℕ) where
   base : at + 0 ≡ at
   base = omega arith
 
+  pub count-rest : countAt rest 0 ≡ countAt ws at
+  count-rest = front 52
+
+  pub first-rest : firstAt rest 0 ≡ firstAt ws at
+  first-rest = front 54
+
   pub family-rest : familyAt rest 0 ≡ familyAt ws at
   family-rest = front 53
 
   pub stored-rest : storedAt rest 0 ≡ storedAt ws at
   stored-rest =
       let n = countAt ws at in
-      ap (λ (k : ℕ). storedRule (piecesFrom k rest 0) (headAt rest 0)) (front 52)
+      ap (λ (k : ℕ). storedRule (piecesFrom k rest 0) (headAt rest 0)) count-rest
       ∙ ap (λ (ps : List Piece). storedRule ps (headAt rest 0)) (pieces n 0 ∙ ap (piecesFrom n ws) base)
-      ∙ ap₂ (λ (f g : ℕ). storedRule (piecesFrom n ws at) (head f g)) (front 53) (front 54)
+      ∙ ap₂ (λ (f g : ℕ). storedRule (piecesFrom n ws at) (head f g)) family-rest first-rest
 
-  framed-rest : isFramed rest 0 ≡ isFramed ws at
+  pub framed-rest : isFramed rest 0 ≡ isFramed ws at
   unfolding isFramed
   framed-rest =
       let n = countAt ws at in
       let u : at + (0 + 4 * n) ≡ at + 4 * n = omega arith in
-      ap (λ (k : ℕ). leb k 13 && (ltb (familyAt rest 0) 256 && (zerosFrom (52 - 4 * k) rest (0 + 4 * k) && zerosFrom 9 rest (0 + 55)))) (front 52)
-      ∙ ap₂ (λ (f : ℕ) (b : Bool). leb n 13 && (ltb f 256 && (b && zerosFrom 9 rest (0 + 55)))) (front 53) (zeros (52 - 4 * n) (0 + 4 * n) ∙ ap (zerosFrom (52 - 4 * n) ws) u)
+      ap (λ (k : ℕ). leb k 13 && (ltb (familyAt rest 0) 256 && (zerosFrom (52 - 4 * k) rest (0 + 4 * k) && zerosFrom 9 rest (0 + 55)))) count-rest
+      ∙ ap₂ (λ (f : ℕ) (b : Bool). leb n 13 && (ltb f 256 && (b && zerosFrom 9 rest (0 + 55)))) family-rest (zeros (52 - 4 * n) (0 + 4 * n) ∙ ap (zerosFrom (52 - 4 * n) ws) u)
       ∙ ap (λ (b : Bool). leb n 13 && (ltb (familyAt ws at) 256 && (zerosFrom (52 - 4 * n) ws (at + 4 * n) && b))) (zeros 9 (0 + 55))
 
   pub rule-rest : isRule rest 0 ≡ isRule ws at
   unfolding isRule
   rule-rest =
       let n = countAt ws at in
-      ap₂ (λ (b : Bool) (k : ℕ). b && recordsFrom k rest 0) framed-rest (front 52)
+      ap₂ (λ (b : Bool) (k : ℕ). b && recordsFrom k rest 0) framed-rest count-rest
       ∙ ap (λ (b : Bool). isFramed ws at && b) (records n 0 ∙ ap (recordsFrom n ws) base)

@@ -2,23 +2,22 @@
 -- the code's test of one goes.
 use Prim.Native.Nat.{ℕ, _-_, _%_, _≤_, _<_}
 use mathlib.Core.Path.{_≡_, refl, sym, ap, _∙_, subst}
-use mathlib.Core.Bool.{Bool, true, false, not, false≢true}
+use mathlib.Core.Bool.{true, false, not, false≢true}
 use mathlib.Core.List.{List, [], _∷_}
 use mathlib.Core.Logic.{⊎-elim}
 use native.Mathlib.Omega.{arith}
-use lib.ListN.{length, take, drop, length-drop}
-use lib.Seq.{take-all}
+use lib.ListN.{length, drop, length-drop}
 use Rattle.ground.specs.Answers.{Refused, Answer, accepts, refuses, declines}
 use Rattle.ground.proofs.Cases.{both, lt-or-le}
 use Rattle.choices.specs.declared.Reading.{Reading}
+use Rattle.choices.specs.declared.Reading.the-variants.{Plain}
 use Rattle.choices.specs.Choices.{standardOf}
 use Rattle.stored.specs.declared.Piece.{Piece}
 use Rattle.stored.specs.declared.Piece.the-variants.{Prefix, Operators, NoRecord}
 use Rattle.stored.specs.Stored.{StoredRule, countAt, familyAt, firstAt, piecesFrom, isFramed}
 use Rattle.stored.proofs.Words.{many, no-family}
 use Rattle.measuring.specs.Bodies.{Lent, lent}
-use Rattle.measuring.specs.declared.Measured.{Measured}
-use Rattle.measuring.specs.Grounds.{pieceTaken, allTaken, counted, toldMeasured}
+use Rattle.measuring.specs.Grounds.{pieceTaken, allTaken}
 use Rattle.measuring.proofs.Laws.{Standard, standard-shows, list-shows, taken-none, all-more}
 use Rattle.writing.specs.Writings.{onAccepted, bodyFrom, bodyIn, writtenIn, refusesRule, accepted as has-body}
 use Rattle.writing.proofs.Laws.{few-words, no-frame, shown, body-in, body-no-family, body-named, in-any-room as any-room}
@@ -76,14 +75,6 @@ rankable words values octets at e =
 
 -- ---- the ways of the test
 
-by-count : (a : Answer (List ℕ)) → accepted (counted a) ≡ accepted a
-by-count (accepts xs) = refl
-by-count (declines f) = refl
-
--- by what was measured, as it is told
-pub as-told : (a : Answer (List ℕ)) (m n : Measured) → m ≡ n → toldMeasured m ≡ counted a → accepted (toldMeasured n) ≡ accepted a
-as-told a m n e f = ap (λ (x : Measured). accepted (toldMeasured x)) (sym e) ∙ ap accepted f ∙ by-count a
-
 -- what is measured in no writing is well-formed in no family
 module _ (ws values octets : List ℕ) (none : (w : Reading) → bodyFrom w ws values octets ≡ refuses 10 []) where
   in-none : (a : Answer Reading) → accepted (onAccepted a (λ w. bodyFrom w ws values octets)) ≡ false
@@ -119,13 +110,11 @@ module _ (ws values octets : List ℕ) (at : ℕ) where
         none (familyAt ws at % 256) ∙ sym (none (familyAt ws at)))
         (lt-or-le (familyAt ws at) 256)
 
-    pub as-measured : (w : Reading) → accepts w ≡ standardOf (familyAt ws at % 256) → {b : Bool} → b ≡ accepted (bodyFrom w (take (length ws - at) (drop at ws)) values octets)
-        → b ≡ wellFormed ws values octets at
-    as-measured w e f =
-        f
-        ∙ ap (λ (l : List ℕ). accepted (bodyFrom w l values octets)) (take-all (length ws - at) (drop at ws) (omega (arith, length-drop at ws)))
-        ∙ ap accepted (sym (body-in (familyAt ws at % 256) (drop at ws) values octets w (sym e)))
-        ∙ by-octet
+    pub as-measured : (w : Reading) → accepts w ≡ standardOf (familyAt ws at % 256) → accepted (bodyFrom w (drop at ws) values octets) ≡ wellFormed ws values octets at
+    as-measured w e = ap accepted (sym (body-in (familyAt ws at % 256) (drop at ws) values octets w (sym e))) ∙ by-octet
+
+    pub not-plain : (w : Reading) → accepts w ≡ standardOf (familyAt ws at % 256) → w ≡ Plain → ⊥
+    not-plain w e z = subst Standard z (standard-shows (familyAt ws at % 256) w (sym e) .0)
 
     pub no-standard : (f : Refused) → declines f ≡ standardOf (familyAt ws at % 256) → false ≡ wellFormed ws values octets at
     no-standard f e = sym (ap accepted (body-no-family (familyAt ws at % 256) (drop at ws) values octets f (sym e))) ∙ by-octet

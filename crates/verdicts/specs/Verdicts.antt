@@ -2,7 +2,7 @@
 -- does for that rule and packet. Document 01, "What comes back", the order of refusals in choosing.
 use Prim.Native.Nat.{ℕ}
 use mathlib.Core.List.{List, [], _∷_}
-use mathlib.Core.Bool.{Bool, true, false, not}
+use mathlib.Core.Bool.{Bool, true, false, not, _&&_}
 use lib.ListN.{drop}
 use lib.Dec.{eqb}
 use Rattle.ground.specs.Answers.{Answer, accepts, refuses, declines}
@@ -14,6 +14,7 @@ use Rattle.matching.specs.Rules.{ruleMatches}
 use Rattle.ranking.specs.declared.Order.{Order}
 use Rattle.ranking.specs.Ranks.{rankOf}
 use Rattle.writing.specs.Writings.{bodyIn}
+use Rattle.verdicts.specs.declared.Judged.{Judged}
 use Rattle.verdicts.specs.declared.Matched.{Matched}
 use Rattle.verdicts.specs.declared.Matched.the-variants.{Is as Matches, Refused as NotMatched}
 use Rattle.verdicts.specs.declared.Ranked.{Ranked}
@@ -31,6 +32,13 @@ ownBody words values octets at = bodyIn (familyAt words at) (drop at words) valu
 -- "10 (any rule the standard writing in the rule's own family refuses by 11, 10 or 7; every other is well-formed)"
 unfoldable pub wellFormed : List ℕ → List ℕ → List ℕ → ℕ → Bool
 wellFormed words values octets at = accepted (ownBody words values octets at)
+
+-- what is told of the rule from a word on: whether it is well-formed, and whether the packet satisfies it, where it is well-formed and that is asked
+abbrev pub judged : Bool → Bool → Judged
+judged formed met = record { formed = formed; met = formed && met }
+
+abbrev pub judgement : List ℕ → List ℕ → List ℕ → Packet → Bool → ℕ → Judged
+judgement words values octets p ask at = judged (wellFormed words values octets at) (ask && ruleMatches values octets p (storedAt words at))
 
 -- whether a packet satisfies the rule at the front of the words: "13, 10 .., 14 (a rule's family is not the packet's)", at place 0
 unfoldable pub matchVerdict : List ℕ → List ℕ → List ℕ → Packet → Answer Bool

@@ -1,0 +1,64 @@
+-- `verdicts::list_weight` meets its contract: the tests in turn, and the list by the standard writing.
+use Prim.Native.Nat.{ℕ}
+use mathlib.Core.Path.{sym, ap, _∙_}
+use native.Mathlib.Omega.{arith}
+use borrow.Author.Tests.{leb-true}
+use lib.Dec.{leb}
+use Rattle.ground.proofs.Cases.{both}
+use Rattle.measuring.specs.Bodies.{lent}
+use Rattle.measuring.specs.Grounds.{risesIn}
+use Rattle.measuring.specs.Weights.{standardWeight}
+use Rattle.measuring.proofs.Laws.{not-plain}
+use Rattle.measuring.proofs.Tests.{told-false, told-true}
+use Rattle.measuring.proofs.Weights.{weight-list-not, weight-standard}
+use borrow.Author.Needs.{needs}
+use Rattle.verdicts.proofs.list_weight.Statement.{statement}
+use Rattle.verdicts.proofs.list_weight.Tie as tie
+
+returns : tie.Need-returns
+returns c =
+    let m = c .before in
+    let a = m .before .before .before .args in
+    sym (weight-list-not (a .writing) (lent (a .values .now) (a .octets .now) (a .first)) (a .left) (a .previous) (a .tag) (a .start) (a .count)
+    (told-false (m .may-follow .ensures) (c .if1 .taken)))
+
+returns-2 : tie.Need-returns-2
+returns-2 c =
+    let t = c .before in
+    let e = t .before in
+    let m = e .before in
+    let g = m .before .before .before in
+    let a = g .args in
+    let l = lent (a .values .now) (a .octets .now) (a .first) in
+    c .lone-list .ensures ∙ ap (λ (n : ℕ). standardWeight l (a .start) n) (sym (t .if2 .taken))
+    ∙ sym (weight-standard (a .writing) l (a .left) (a .previous) (a .tag) (a .start) (a .count) (not-plain (a .writing) (g .pre .0)) (told-true (m .may-follow .ensures) (e .if1 .left)))
+
+standard-list-requires : tie.Need-standard-list-requires
+standard-list-requires c κs =
+    let e = c .before in
+    let m = e .before in
+    let g = m .before .before .before in
+    let a = g .args in
+    let b = both (leb (a .count) (a .left)) (risesIn (a .writing) (a .previous) (a .tag)) (told-true (m .may-follow .ensures) (e .if1 .left)) in
+    omega (arith, leb-true (a .count) (a .left) (b .0), g .pre .1)
+
+returns-3 : tie.Need-returns-3
+returns-3 c =
+    let e = c .before .before in
+    let m = e .before in
+    let g = m .before .before .before in
+    let a = g .args in
+    let l = lent (a .values .now) (a .octets .now) (a .first) in
+    c .standard-list .ensures
+    ∙ sym (weight-standard (a .writing) l (a .left) (a .previous) (a .tag) (a .start) (a .count) (not-plain (a .writing) (g .pre .0)) (told-true (m .may-follow .ensures) (e .if1 .left)))
+
+pub list-weight-spec : {M : Type 1} → statement M
+list-weight-spec =
+    tie.close
+    (tie.spec
+    (λ c κs. search needs)
+    returns
+    (λ c κs. search needs)
+    returns-2
+    standard-list-requires
+    returns-3)
