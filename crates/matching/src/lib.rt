@@ -1,38 +1,21 @@
-// Matching: whether a packet satisfies a component, a rule. Rule and packet are taken in the words that lend them, and nothing of either is copied.
+// Matching: whether a packet satisfies a component. It is taken in the words that lend it, and nothing of it is copied.
 //
 // Whether the packet is in range and the rule is well-formed is the chooser's to ask, before this: the functions with a `requires` are no entry points.
 ghost use mathlib.Core.Path.{_≡_};
 ghost use mathlib.Core.Bool.{true};
 ghost use Prim.Native.Nat.{_+_, _-_, _≤_};
 ghost use lib.Bits.{bitXor};
-ghost use lib.Dec.{leb};
 ghost use lib.ListN.{length};
 ghost use Rattle.wide.specs.Numbers.{num};
 ghost use Rattle.operators.specs.Ops.{opsIn};
-ghost use Rattle.stored.specs.declared.Piece.the-variants.{Operators as operators};
-ghost use Rattle.stored.specs.Stored.{isRule, storedAt};
 ghost use Rattle.packets.specs.Packets.{packetOk, packetAt};
 ghost use Rattle.packets.specs.Shown.{numbersOf};
-ghost use Rattle.matching.specs.Rules.{sameBits, prefixMatches, countedBits, testOf, someMatches, pieceMatches, ruleMatches};
+ghost use Rattle.matching.specs.Rules.{sameBits, prefixMatches, countedBits, testOf, someMatches};
 use rules::NetworkPrefix;
 use satisfying::Test;
-use stored::Piece;
 use wide::Wide;
 
 const ALL_BITS: u64 = 18446744073709551615;
-
-// Whether so many places end within a list, whatever the numbers are.
-fn inside(room: usize, first: usize, start: usize, count: usize) -> bool
-    ensures { λ r. ⌜ r ≡ leb (first + start + count) room ⌝ }
-{
-    if room < count {
-        return false;
-    }
-    if room - count < start {
-        return false;
-    }
-    first <= room - count - start
-}
 
 fn less(a: u8, b: u8) -> u8
     ensures { λ r. ⌜ r ≡ a - b ⌝ }
@@ -92,7 +75,8 @@ pub fn ipv6_matches(offset: u8, length: u8, address: Wide, a: Wide) -> bool
     same_bits(128, offset, length, address, a)
 }
 
-fn prefix_matches(prefix: NetworkPrefix, a: Wide) -> bool
+// A prefix of any form.
+pub fn prefix_matches(prefix: NetworkPrefix, a: Wide) -> bool
     ensures { λ r. ⌜ r ≡ prefixMatches prefix (num a) ⌝ }
 {
     match prefix {
@@ -154,8 +138,8 @@ fn test_of(family: u64, tag: u8) -> Test
     }
 }
 
-// Whether one of the numbers that a packet shows to a type satisfies the count operators from a place on.
-fn some_matches(
+// Whether one of the numbers that a packet shows to a type satisfies the count operators from a place on: whether a packet satisfies a list. No entry point.
+pub fn some_matches(
     tag: u8,
     values: &[u64],
     octets: &[u8],
@@ -180,72 +164,4 @@ fn some_matches(
         i += 1;
     }
     false
-}
-
-// Whether a packet satisfies a list, its places counted from the rule's first place of the lent lists. No entry point.
-pub fn operators_match(
-    tag: u8,
-    start: usize,
-    count: usize,
-    first: usize,
-    values: &[u64],
-    octets: &[u8],
-    packet: &[u64],
-) -> bool
-    requires { ⌜ packetOk (packetAt (now packet)) ≡ true ⌝ }
-    ensures { λ r. ⌜ r ≡ pieceMatches (now (values .entry)) (now (octets .entry)) first (packetAt (now (packet .entry))) (operators tag start count) ⌝ }
-{
-    if !inside(values.len(), first, start, count) {
-        return false;
-    }
-    if !inside(octets.len(), first, start, count) {
-        return false;
-    }
-    some_matches(tag, values, octets, first + start, count, packet)
-}
-
-// Whether a packet satisfies a component of a rule whose operators begin at a place of the lent lists. No entry point.
-pub fn piece_matches(
-    piece: Piece,
-    first: usize,
-    values: &[u64],
-    octets: &[u8],
-    packet: &[u64],
-) -> bool
-    requires { ⌜ packetOk (packetAt (now packet)) ≡ true ⌝ }
-    ensures { λ r. ⌜ r ≡ pieceMatches (now (values .entry)) (now (octets .entry)) first (packetAt (now (packet .entry))) piece ⌝ }
-{
-    match piece {
-        Piece::Prefix { tag, prefix } => prefix_matches(prefix, packets::address_of(packet, tag)),
-        Piece::Operators { tag, start, count } => {
-            operators_match(tag, start, count, first, values, octets, packet)
-        }
-        Piece::NoRecord => false,
-    }
-}
-
-// Whether a packet satisfies the rule in the 64 words from a word on. No entry point.
-pub fn rule_matches(
-    words: &[u64],
-    base: usize,
-    values: &[u64],
-    octets: &[u8],
-    packet: &[u64],
-) -> bool
-    requires long { ⌜ base + 64 ≤ length (now words) ⌝ }
-    requires rule { ⌜ isRule (now words) base ≡ true ⌝ }
-    requires packet { ⌜ packetOk (packetAt (now packet)) ≡ true ⌝ }
-    ensures { λ r. ⌜ r ≡ ruleMatches (now (values .entry)) (now (octets .entry)) (packetAt (now (packet .entry))) (storedAt (now (words .entry)) base) ⌝ }
-{
-    let count = stored::count_at(words, base);
-    let first = stored::first_at(words, base);
-    let mut i = 0;
-    while i < count {
-        let piece = stored::piece_at(words, base + 4 * i);
-        if !piece_matches(piece, first, values, octets, packet) {
-            return false;
-        }
-        i += 1;
-    }
-    true
 }

@@ -113,6 +113,9 @@ module _ (w : Reading) (l : Lent) (left previous : ℕ) (p : Piece) where
     pub weight-some : (fitsAfter w l left previous p ≡ true) × (weightOf w l left previous p ≡ length (pieceOctets w l p))
     weight-some = (fits, weight-is fits)
 
+    pub weight-taken : pieceTaken w l p ≡ true
+    weight-taken = parts fits .1
+
     pub weight-few : operatorsIn p ≤ left
     weight-few = parts fits .0
 

@@ -2,8 +2,10 @@
 use Prim.Native.Nat.{ℕ}
 use mathlib.Core.Path.{_≡_, sym, ap, _∙_}
 use mathlib.Core.Bool.{Bool, true, false, _&&_}
+use native.Mathlib.Omega.{arith}
 use borrow.Author.Tests.{ne-eqb}
 use Rattle.choices.specs.declared.Reading.{Reading}
+use Rattle.choices.specs.declared.Reading.the-variants.{Plain}
 use Rattle.rules.specs.declared.NetworkPrefix.{NetworkPrefix}
 use Rattle.stored.specs.declared.Piece.{Piece}
 use Rattle.stored.specs.declared.Piece.the-variants.{Prefix, Operators, NoRecord}
@@ -12,7 +14,9 @@ use Rattle.packets.specs.Packets.{Packet}
 use Rattle.packets.specs.Shown.{addressOf}
 use Rattle.matching.specs.Rules.{prefixMatches, pieceMatches}
 use Rattle.measuring.specs.Bodies.{Lent}
-use Rattle.measuring.proofs.Weights.{weight-prefix, weight-none}
+use Rattle.measuring.specs.Weights.{weightOf}
+use Rattle.measuring.proofs.Laws.{Listed, list-shows, not-plain}
+use Rattle.measuring.proofs.Weights.{weight-taken, weight-prefix, weight-none}
 use Rattle.verdicts.specs.Steps.{stepIn, stepOf, prefixStep, otherStep}
 
 -- by whether there are octets, and whether it is asked if the component is met
@@ -29,6 +33,11 @@ module _ (n type count : ℕ) (met b : Bool) {k : ℕ} (is : k ≡ n) where
 
     pub not-asked : met ≡ false → record { octets = k; tag = type; operators = count; met = false } ≡ stepIn n type count (met && b)
     not-asked f = taken (sym (ap (λ x. x && b) f))
+
+-- a list of some octets in a standard writing lies within the lent lists
+pub listed : (w : Reading) (l : Lent) (left previous type start count : ℕ) {k : ℕ} → (w ≡ Plain → ⊥) → k ≡ weightOf w l left previous (Operators type start count) → (k ≡ 0 → ⊥) → Listed l start count
+listed w l left previous type start count u e z =
+    list-shows w (not-plain w u) l type start count (weight-taken w l left previous (Operators type start count) (omega (arith, e, z)))
 
 module _ (w : Reading) (l : Lent) (left previous : ℕ) (p : Packet) (met : Bool) where
   pub prefix-is : (type : ℕ) (x : NetworkPrefix) → prefixStep w previous p met type x ≡ stepOf w l left previous p met (Prefix type x)

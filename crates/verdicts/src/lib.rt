@@ -129,7 +129,7 @@ fn list_step(
             octets: n,
             tag: tag,
             operators: count,
-            met: matching::operators_match(tag, start, count, first, values, octets, packet),
+            met: matching::some_matches(tag, values, octets, first + start, count, packet),
         };
     }
     Step {
@@ -225,16 +225,7 @@ fn ipv6_step(
 }
 
 // A prefix in a form that is not common, or no component at all.
-fn other_step(
-    writing: Reading,
-    previous: u8,
-    piece: Piece,
-    first: usize,
-    values: &[u64],
-    octets: &[u8],
-    packet: &[u64],
-    met: bool,
-) -> Step
+fn other_step(writing: Reading, previous: u8, piece: Piece, packet: &[u64], met: bool) -> Step
     requires { ⌜ (met ≡ true → packetOk (packetAt (now packet)) ≡ true) ⌝ }
     ensures { λ r. ⌜ r ≡ otherStep writing previous (packetAt (now (packet .entry))) met piece ⌝ }
 {
@@ -254,7 +245,7 @@ fn other_step(
                     octets: n,
                     tag: tag,
                     operators: 0,
-                    met: matching::piece_matches(piece, first, values, octets, packet),
+                    met: matching::prefix_matches(prefix, packets::address_of(packet, tag)),
                 };
             }
             Step {
@@ -319,16 +310,7 @@ fn step_at(
             met,
         );
     }
-    other_step(
-        writing,
-        previous,
-        stored::piece_at(words, at),
-        first,
-        values,
-        octets,
-        packet,
-        met,
-    )
+    other_step(writing, previous, stored::piece_at(words, at), packet, met)
 }
 
 // The walk, by a standard writing.

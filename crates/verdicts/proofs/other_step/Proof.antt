@@ -1,10 +1,9 @@
 -- `verdicts::other_step` meets its contract: a prefix by its octets, and whether it is asked if it is met; what is none tells nothing.
-use mathlib.Core.Path.{refl, sym, ap, _∙_}
+use mathlib.Core.Path.{sym, ap, _∙_}
 use mathlib.Core.Bool.{Bool}
 use Rattle.packets.specs.Packets.{Packet, packetAt}
 use Rattle.packets.specs.Shown.{addressOf}
 use Rattle.matching.specs.Rules.{prefixMatches}
-use Rattle.matching.proofs.Pieces.{by-prefix}
 use Rattle.verdicts.specs.Steps.{prefixStep, otherStep}
 use Rattle.verdicts.proofs.Steps.{not-taken, asked, not-asked}
 use borrow.Author.Needs.{needs}
@@ -12,7 +11,7 @@ use Rattle.verdicts.proofs.other_step.Statement.{statement}
 use Rattle.verdicts.proofs.other_step.Tie as tie
 
 abbrev start : tie.After-piece → tie.Start
-start k = k .before .before .before .before .before
+start k = k .before .before .before
 
 abbrev packetOf : tie.Start → Packet
 packetOf s = packetAt (s .args .packet .now)
@@ -30,20 +29,21 @@ returns c =
     not-taken _ _ _ (s .args .met) (holds k) (m .weigh-prefix .ensures) (c .if1 .taken)
     ∙ sym (ap (otherStep (s .args .writing) (s .args .previous) (packetOf s) (s .args .met)) (k .piece .given .1))
 
-piece-matches-requires : tie.Need-piece-matches-requires
-piece-matches-requires c κs = start (c .before .before .before .before) .pre (c .if2 .taken)
+address-of-requires : tie.Need-address-of-requires
+address-of-requires c κs = start (c .before .before .before .before) .pre (c .if2 .taken)
 
 returns-2 : tie.Need-returns-2
 unfolding prefixStep
 returns-2 c =
-    let t = c .before in
+    let d = c .before in
+    let t = d .before in
     let e = t .before in
     let m = e .before in
     let k = m .before .before in
     let s = start k in
     let a = s .args in
     asked _ _ _ (a .met) (holds k) (m .weigh-prefix .ensures) (e .if1 .left) (t .if2 .taken)
-    (c .piece-matches .ensures ∙ sym (by-prefix (a .values .now) (a .octets .now) (a .first) (packetOf s) _ _ _ _ refl refl))
+    (c .prefix-matches .ensures ∙ ap (prefixMatches (k .piece .given .0 .1 .0)) (d .address-of .ensures))
     ∙ sym (ap (otherStep (a .writing) (a .previous) (packetOf s) (a .met)) (k .piece .given .1))
 
 returns-3 : tie.Need-returns-3
@@ -59,13 +59,13 @@ returns-3 c =
 returns-4 : tie.Need-returns-4
 returns-4 c =
     let t = c .before in
-    let s = t .before .before .before .before .before in
+    let s = t .before .before .before in
     c .no-step .ensures ∙ sym (ap (otherStep (s .args .writing) (s .args .previous) (packetOf s) (s .args .met)) (t .enum-told .given .1))
 
 returns-5 : tie.Need-returns-5
 returns-5 c =
     let t = c .before in
-    let s = t .before .before .before .before .before in
+    let s = t .before .before .before in
     c .no-step2 .ensures ∙ sym (ap (otherStep (s .args .writing) (s .args .previous) (packetOf s) (s .args .met)) (t .enum-told2 .given .1))
 
 pub other-step-spec : {M : Type 1} → statement M
@@ -75,7 +75,8 @@ other-step-spec =
     (λ c. search needs)
     (λ c κs. search needs)
     returns
-    piece-matches-requires
+    address-of-requires
+    (λ c κs. search needs)
     returns-2
     (λ c. search needs)
     (λ c κs. search needs)
