@@ -225,6 +225,7 @@ pub fn weigh_ipv4(writing: Reading, previous: u8, tag: u8, len: u8, address: u32
     }
 }
 
+// The same of an IPv6 prefix with an offset. Its one caller is the walk that chooses, so that the compiler makes one function of both.
 pub fn weigh_ipv6(
     writing: Reading,
     previous: u8,
@@ -323,7 +324,17 @@ fn weigh_at(
     }
     if v.form == 3 {
         return Weight {
-            octets: weigh_ipv6(writing, previous, v.tag, v.length, v.offset, v.high, v.low),
+            octets: weigh_prefix(
+                writing,
+                previous,
+                v.tag,
+                NetworkPrefix::Ipv6Offset {
+                    length: v.length,
+                    offset: v.offset,
+                    high: v.high,
+                    low: v.low,
+                },
+            ),
             tag: v.tag,
             operators: 0,
         };

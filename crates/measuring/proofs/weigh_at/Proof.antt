@@ -14,7 +14,7 @@ use Rattle.measuring.proofs.weigh_at.Tie as tie
 use Rattle.measuring.proofs.weigh_at.Reads as reads
 use Rattle.measuring.proofs.weigh_at.Lts as lts
 use Rattle.measuring.proofs.weigh_ipv4.Reads as weigh-ipv4-reads
-use Rattle.measuring.proofs.weigh_ipv6.Reads as weigh-ipv6-reads
+use Rattle.measuring.proofs.weigh_prefix.Reads as weigh-prefix-reads
 use Rattle.measuring.proofs.weigh_list.Reads as weigh-list-reads
 use Rattle.measuring.proofs.weigh_other.Reads as weigh-other-reads
 use Rattle.stored.proofs.piece_at.Reads as piece-at-reads
@@ -50,7 +50,7 @@ returns-3 c =
     let l = lent (a .values .now) (a .octets .now) (a .first) in
     let o = v .view-at .result in
     let p = Prefix (o .tag) (Ipv6Offset (o .length) (o .offset) (o .high) (o .low)) in
-    ap (λ (n : ℕ). weighing n p) (c .weigh-ipv6 .ensures ∙ sym (weight-prefix (a .writing) l (a .left) (a .previous) (o .tag) (Ipv6Offset (o .length) (o .offset) (o .high) (o .low))))
+    ap (λ (n : ℕ). weighing n p) (c .weigh-prefix .ensures ∙ sym (weight-prefix (a .writing) l (a .left) (a .previous) (o .tag) (Ipv6Offset (o .length) (o .offset) (o .high) (o .low))))
     ∙ sym (ap (λ q. weighing (weightOf (a .writing) l (a .left) (a .previous) q) q) (v .view-at .ensures .ipv6 (t .if3 .taken)))
 
 weigh-other-requires : tie.Need-weigh-other-requires
