@@ -108,13 +108,13 @@ impl Comparison {
     fn same_reading(&mut self, form: Form, input: &[u8], answer: Answer, room: Room) -> bool {
         self.calls += 1;
         let turn = self.calls;
-        let found = archive::read(
+        let found = Answer::from(archive::read(
             form,
             input,
             self.words.lend(room.words, turn),
             self.values.lend(room.values, turn),
             self.octets.lend(room.octets, turn),
-        );
+        ));
         let wanted = match answer.status {
             0 => room.answer(answer),
             _ => answer,
@@ -184,7 +184,13 @@ impl Comparison {
         let words = self.words.lend(own + behind, turn);
         words[..own].copy_from_slice(&record.words);
         let output = self.output.lend(room, turn);
-        let found = archive::write(form, words, &record.values, &record.octets, output);
+        let found = Answer::from(archive::write(
+            form,
+            words,
+            &record.values,
+            &record.octets,
+            output,
+        ));
         let octets = match wanted.status {
             0 => &self.written[..],
             _ => &[],
