@@ -40,6 +40,12 @@ pub(crate) fn read_rule(
     }
 }
 
+/// Checks a rule: the octets used.
+pub(crate) fn check_rule(standard: u8, family: u8, input: &[u8]) -> Result<usize, Refusal> {
+    let (used, _) = surface::check(standard, family, input).accepted()?;
+    Ok(used)
+}
+
 fn read_within(
     standard: u8,
     family: u8,

@@ -157,6 +157,12 @@ mod exported {
             octets: *mut u8,
             octets_len: usize,
         ) -> Answer;
+        pub fn krubbadin_check(
+            standard: u8,
+            family: u8,
+            input: *const u8,
+            input_len: usize,
+        ) -> Answer;
         pub fn krubbadin_write(
             standard: u8,
             family: u8,
@@ -256,6 +262,28 @@ pub fn read(
             octets.len(),
         )
     }
+}
+
+/// Checks a rule and writes nothing: answers what [`read`] with room for all would. With `standard` 0 it goes by the plain reading, which
+/// looks at no family; else by the standard one in the family, 4 or 6.
+///
+/// Accepted: the octets used, and how many operators there are, which is how many places [`read`] needs in each list. Refusals: 8 (plain)
+/// or 11 (standard), then 1 to 5 as the walk meets them; never 9.
+///
+/// ```
+/// use krubbadin::surface::check;
+///
+/// let input = [0x08, 0x05, 0x03, 0x50, 0x45, 0x5A, 0x91, 0x01, 0xBB];
+/// let answer = check(1, 4, &input);
+/// assert_eq!((answer.status, answer.first, answer.second), (0, 9, 3));
+/// assert_eq!(check(1, 4, &input[..8]).status, 1);
+/// let answer = check(1, 5, &input);
+/// assert_eq!((answer.status, answer.first), (11, 5));
+/// ```
+#[inline]
+pub fn check(standard: u8, family: u8, input: &[u8]) -> Answer {
+    // SAFETY: as in `read`.
+    unsafe { exported::krubbadin_check(standard, family, input.as_ptr(), input.len()) }
 }
 
 /// Writes the rule that stands in the first 64 words, its operators in the two lists, to `out`. With `standard` 0 it is the plain writing,
