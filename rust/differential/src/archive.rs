@@ -37,6 +37,13 @@ pub fn read(
     surface::read(standard, family, input, words, values, octets)
 }
 
+/// Checks a rule: used, and how many operators.
+#[inline]
+pub fn check(form: Form, input: &[u8]) -> Answer {
+    let (standard, family) = asked(form);
+    surface::check(standard, family, input)
+}
+
 /// Writes a rule that stands in lent words and lists: how many octets.
 #[inline]
 pub fn write(

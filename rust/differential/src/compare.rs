@@ -12,8 +12,9 @@ use std::process;
 const ENOUGH: u64 = 20;
 
 pub struct Comparison {
-    /// Inputs compared, and those that differ.
+    /// Inputs compared, those of them that were checked besides being read, and differences.
     pub compared: u64,
+    pub checked: u64,
     pub differ: u64,
     /// Calls of the proved code: an input is tried with several amounts of room.
     pub calls: u64,
@@ -31,6 +32,7 @@ impl Comparison {
     pub fn new() -> Self {
         Comparison {
             compared: 0,
+            checked: 0,
             differ: 0,
             calls: 0,
             answers: BTreeMap::new(),
@@ -61,15 +63,17 @@ impl Comparison {
     }
 
     pub fn last_line(&self) -> String {
-        format!("{} compared, {} differ", self.compared, self.differ)
+        let compared = self.compared + self.checked;
+        format!("{compared} compared, {} differ", self.differ)
     }
 
     /// Compares a reading: with room to spare, with just enough and with too little. Where the input
-    /// is refused, room does not matter.
+    /// is refused, room does not matter. The same input is checked.
     pub fn reading(&mut self, form: Form, input: &[u8]) {
         let turn = self.compared as usize;
         let answer = peers::read(form, input, &mut self.stored);
         self.count(answer, "accepted");
+        self.checking(form, input, answer);
         if !answer.is_accepted() {
             let lent = [
                 room(64, 0, 0),
@@ -150,6 +154,21 @@ impl Comparison {
         }
         self.difference(&lines);
         false
+    }
+
+    /// Compares a check with what must come of a reading that has room.
+    fn checking(&mut self, form: Form, input: &[u8], wanted: Answer) {
+        self.calls += 1;
+        self.checked += 1;
+        let found = Answer::from(archive::check(form, input));
+        if found == wanted {
+            return;
+        }
+        self.difference(&[
+            format!("differ: {form} check of {}", hex(input)),
+            format!("  proved: {}", check_text(found)),
+            format!("  wanted: {}", check_text(wanted)),
+        ]);
     }
 
     /// Compares a writing, with room as in `reading`.
@@ -264,14 +283,22 @@ fn reading_text(answer: Answer, lists: (&[u64], &[u64], &[u8])) -> String {
         return refusal_text(answer);
     }
     let (words, values, octets) = lists;
+    let told = check_text(answer);
     let operators = front(values, answer.second);
     let record = record_text(
         front(words, WORDS as u64),
         operators,
         front(octets, answer.second),
     );
+    format!("{told}, {record}")
+}
+
+fn check_text(answer: Answer) -> String {
+    if !answer.is_accepted() {
+        return refusal_text(answer);
+    }
     let (used, operators) = (answer.first, answer.second);
-    format!("accepted, used {used}, operators {operators}, {record}")
+    format!("accepted, used {used}, operators {operators}")
 }
 
 fn writing_text(answer: Answer, output: &[u8]) -> String {
