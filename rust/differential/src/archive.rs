@@ -17,6 +17,7 @@ impl From<Answer> for crate::Answer {
 }
 
 /// What the surface asks for: 0 is the plain reading or writing, which looks at no family.
+#[inline]
 fn asked(form: Form) -> (u8, u8) {
     match form {
         Form::Plain => (0, 0),

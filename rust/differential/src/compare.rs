@@ -156,18 +156,21 @@ impl Comparison {
         false
     }
 
-    /// Compares a check with what must come of a reading that has room.
+    /// Compares a check with what must come of a reading that has room. The validator that is timed
+    /// beside it is held to the same answer.
     fn checking(&mut self, form: Form, input: &[u8], wanted: Answer) {
         self.calls += 1;
         self.checked += 1;
         let found = Answer::from(archive::check(form, input));
-        if found == wanted {
+        let timed = peers::timed_check(form, input);
+        if found == wanted && timed == wanted {
             return;
         }
         self.difference(&[
             format!("differ: {form} check of {}", hex(input)),
             format!("  proved: {}", check_text(found)),
             format!("  wanted: {}", check_text(wanted)),
+            format!("  timed: {}", check_text(timed)),
         ]);
     }
 
