@@ -43,6 +43,10 @@
 
 #![allow(unsafe_code)]
 
+use crate::error::Refusal;
+use std::mem::MaybeUninit;
+use std::slice;
+
 pub use crate::why::{why_packet, why_rule};
 
 /// The words of a rule.
@@ -261,6 +265,52 @@ pub fn read(
             octets.as_mut_ptr(),
             octets.len(),
         )
+    }
+}
+
+/// What [`read_anew`] read: the octets used, the rule's words, its operators.
+pub(crate) struct Anew<'a> {
+    pub used: usize,
+    pub words: &'a [u64; WORDS],
+    pub values: &'a [u64],
+    pub octets: &'a [u8],
+}
+
+/// As [`read`], into places that hold nothing yet.
+#[inline]
+pub(crate) fn read_anew<'a>(
+    standard: u8,
+    family: u8,
+    input: &[u8],
+    words: &'a mut MaybeUninit<[u64; WORDS]>,
+    values: &'a mut [MaybeUninit<u64>],
+    octets: &'a mut [MaybeUninit<u8>],
+) -> Result<Anew<'a>, Refusal> {
+    // SAFETY: as in `read`. What the callee answers and writes is proved whatever the places held.
+    let answer = unsafe {
+        exported::krubbadin_read(
+            standard,
+            family,
+            input.as_ptr(),
+            input.len(),
+            words.as_mut_ptr().cast(),
+            WORDS,
+            values.as_mut_ptr().cast(),
+            values.len(),
+            octets.as_mut_ptr().cast(),
+            octets.len(),
+        )
+    };
+    let (used, operators) = answer.accepted()?;
+    let (values, octets) = (&values[..operators], &octets[..operators]);
+    // SAFETY: an accepted reading wrote all 64 words and so many places of each list: that is proved.
+    unsafe {
+        Ok(Anew {
+            used,
+            words: words.assume_init_ref(),
+            values: slice::from_raw_parts(values.as_ptr().cast(), operators),
+            octets: slice::from_raw_parts(octets.as_ptr().cast(), operators),
+        })
     }
 }
 
