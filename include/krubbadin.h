@@ -1,6 +1,6 @@
 /*
- * BGP FlowSpec rules (RFC 8955, RFC 8956), read, written, matched, ranked and chosen by proved code: the surface of libkrubbadin.a, which
- * `rt staticlib krubbadin` writes. It needs nothing but memset and memcpy of the C library, takes no heap, keeps no state, and may be
+ * BGP FlowSpec rules (RFC 8955, RFC 8956), checked, read, written, matched, ranked and chosen by proved code: the surface of
+ * libkrubbadin.a, which `rt staticlib krubbadin` writes. It needs nothing but memset and memcpy of the C library, takes no heap, keeps no state, and may be
  * called from many threads.
  *
  * A slice is a pointer and a length, the length in elements. The pointer may be NULL where the length is 0; else it points to so many
@@ -160,6 +160,16 @@ struct krubbadin_answer krubbadin_read(uint8_t standard, uint8_t family,
                                        uint64_t *words, size_t words_len,
                                        uint64_t *values, size_t values_len,
                                        uint8_t *octets, size_t octets_len);
+
+/*
+ * Checks a rule at the front of `input` and writes nothing: answers what krubbadin_read with room for all would. With `standard` 0 it goes
+ * by the plain reading, which looks at no family; else by the standard one in `family`, 4 or 6.
+ *
+ * Accepted: first is the octets used, the length's own included, second the number of operators, which is how many places krubbadin_read
+ * needs in each list. Refused by 8 (plain) or 11 (standard), then by 1 to 5 as the walk meets them, and never by 9.
+ */
+struct krubbadin_answer krubbadin_check(uint8_t standard, uint8_t family,
+                                        const uint8_t *input, size_t input_len);
 
 /*
  * Writes the rule in the first 64 words, its operators in the two lists, to the front of `out`. With `standard` 0 it is the plain

@@ -45,9 +45,26 @@ static int is(struct krubbadin_answer a, uint64_t status, uint64_t first, uint64
     return a.status == status && a.first == first && a.second == second;
 }
 
-/* Reads into a fresh rule with all its places; plain is family 0. */
+/* A check answers what a reading with room for all does, here of the input and of every truncation of it. */
+static int checks_the_same(uint8_t family, const uint8_t *input, size_t length)
+{
+    static uint64_t words[KRUBBADIN_RULE_WORDS], values[KRUBBADIN_MOST_OPERATORS];
+    static uint8_t octets[KRUBBADIN_MOST_OPERATORS];
+    size_t left;
+    for (left = 0; left <= length; left++) {
+        struct krubbadin_answer a = krubbadin_read(family != 0, family, input, left, words, KRUBBADIN_RULE_WORDS,
+                                                   values, KRUBBADIN_MOST_OPERATORS, octets, KRUBBADIN_MOST_OPERATORS);
+        if (a.status == KRUBBADIN_NO_ROOM || !is(krubbadin_check(family != 0, family, input, left), a.status, a.first, a.second)) {
+            return 0;
+        }
+    }
+    return 1;
+}
+
+/* Reads into a fresh rule with all its places; plain is family 0. What is read here is checked too. */
 static struct krubbadin_answer reads(uint8_t family, const uint8_t *input, size_t length, struct lent *l)
 {
+    CHECK(checks_the_same(family, input, length));
     *l = fresh();
     return krubbadin_read(family != 0, family, input, length, l->words, 64, l->values, 8, l->octets, 8);
 }
@@ -167,6 +184,59 @@ static void refused(void)
     rule[52] = 1, rule[0] = 3, rule[2] = 1;
     CHECK(is(krubbadin_write(0, 0, rule, 64, NULL, 0, NULL, 0, out, 4), 10, 0, 0));
     CHECK(is(krubbadin_write(1, 7, rule, 64, NULL, 0, NULL, 0, out, 4), 11, 7, 0));
+}
+
+/* The octets stand in a text; plain is family 0. */
+#define CHECKS(family, text) krubbadin_check((family) != 0, (family), (const uint8_t *)(text), sizeof(text) - 1)
+
+/* Each answer that a check has: used and operators, or a refusal of a reading. */
+static void checked(void)
+{
+    static uint8_t many[4098];
+    const uint8_t port_case[] = {0x08, 0x05, 0x03, 0x50, 0x45, 0x5A, 0x91, 0x01, 0xBB, 0x00};
+    struct krubbadin_answer a;
+    size_t i;
+    CHECK(is(krubbadin_check(0, 0, port_case, 9), 0, 9, 3));
+    CHECK(is(krubbadin_check(1, 4, port_case, 9), 0, 9, 3));
+    CHECK(is(krubbadin_check(1, 6, port_case, 9), 0, 9, 3));
+    CHECK(is(krubbadin_check(255, 6, port_case, 10), 0, 9, 3));
+    CHECK(is(CHECKS(4, "\x0B\x01\x18\xC0\x00\x02\x03\x81\x06\x04\x81\x19"), 0, 12, 2));
+    CHECK(is(CHECKS(4, "\xF0\x05\x01\x18\xC0\x00\x02"), 0, 7, 0));
+    CHECK(is(CHECKS(6, "\x04\x01\x41\x3F\xC0"), 0, 5, 0));
+    CHECK(is(CHECKS(0, "\x02\x03\x81\x06\x05"), 0, 3, 1));
+    CHECK(is(CHECKS(0, "\x00"), 0, 1, 0));
+
+    CHECK(is(krubbadin_check(0, 0, NULL, 0), 1, 0, 0));
+    CHECK(is(krubbadin_check(1, 4, NULL, 0), 1, 0, 0));
+    CHECK(is(krubbadin_check(1, 6, NULL, 0), 1, 0, 0));
+    CHECK(is(CHECKS(4, "\x06\x03\x81\x06\x03\x81\x11"), 2, 3, 3));
+    CHECK(is(CHECKS(0, "\x01\x0E"), 3, 14, 0));
+    CHECK(is(CHECKS(4, "\x04\x0D\x81\x00\x0E"), 3, 13, 0));
+    CHECK(is(CHECKS(6, "\x03\x01\x40\x40"), 4, 0, 0));
+    CHECK(is(CHECKS(0, "\x03\x03\x89\x06"), 5, 0x89, 0));
+    CHECK(is(CHECKS(4, "\x03\x03\x89\x06"), 0, 4, 1));
+    CHECK(is(krubbadin_check(0, 0, many, sizeof many), 8, 4098, 0));
+    CHECK(is(krubbadin_check(1, 4, many, sizeof many), 0, 1, 0));
+    CHECK(is(krubbadin_check(1, 5, port_case, 9), 11, 5, 0));
+    CHECK(is(krubbadin_check(1, 0, NULL, 0), 11, 0, 0));
+    CHECK(is(krubbadin_check(0, 5, port_case, 9), 0, 9, 3));
+
+    /* the most operators that there can be, of one octet each: none of them has a place */
+    many[0] = 0xFF, many[1] = 0xFF, many[2] = 4;
+    for (i = 3; i < 4097; i += 2) {
+        many[i] = i == 4095 ? 0x81 : 0x01;
+    }
+    CHECK(is(krubbadin_check(1, 4, many, 4097), 0, 4097, KRUBBADIN_MOST_OPERATORS));
+    CHECK(is(krubbadin_check(0, 0, many, 4097), 0, 4097, KRUBBADIN_MOST_OPERATORS));
+    CHECK(checks_the_same(4, many, 4097) && checks_the_same(0, many, 4097));
+
+    /* a reading with the places that it names has room */
+    a = krubbadin_check(1, 4, port_case, 9);
+    if (a.status == KRUBBADIN_ACCEPTED) {
+        struct lent l = fresh();
+        CHECK(is(krubbadin_read(1, 4, port_case, 9, l.words, 64, l.values, a.second, l.octets, a.second), 0, 9, 3));
+        CHECK(is(krubbadin_read(1, 4, port_case, 9, l.words, 64, l.values, a.second - 1, l.octets, a.second), 9, 3, 0));
+    }
 }
 
 static void matched(void)
@@ -308,6 +378,7 @@ int main(void)
     the_port_case();
     accepted();
     refused();
+    checked();
     matched();
     ranked();
     chosen();

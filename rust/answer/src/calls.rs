@@ -69,6 +69,11 @@ impl Desk {
             [b"plain_read", octets, places] => self.read(0, 0, octets, places, answer),
             [b"std_read4", octets, places] => self.read(1, 4, octets, places, answer),
             [b"std_read6", octets, places] => self.read(1, 6, octets, places, answer),
+            [b"check", b"plain", octets] => self.check(0, 0, octets, answer),
+            [b"check", family, octets] => {
+                let family = protocol::octet_number(family).map_err(|_| Bad(NO_READING))?;
+                self.check(1, family, octets, answer)
+            }
             [b"plain_write", rule, values, octets, room] => {
                 self.write(0, 0, [rule, values, octets, room], answer)
             }
@@ -106,13 +111,18 @@ impl Desk {
                 Ok(read) => read,
                 Err(refusal) => return Ok(Err(refusal)),
             };
-        answer.extend_from_slice(b"ok ");
-        protocol::put_number(used as u64, answer);
-        answer.push(b' ');
-        protocol::put_number(operators as u64, answer);
+        put_read(used, operators, answer);
         answer.push(b' ');
         self.one.put_rule(answer);
         Ok(Ok(()))
+    }
+
+    fn check(&mut self, standard: u8, family: u8, octets: &[u8], answer: &mut Vec<u8>) -> Said {
+        protocol::octets(octets, &mut self.input)?;
+        let said = surface::check(standard, family, &self.input);
+        Ok(said
+            .accepted()
+            .map(|(used, operators)| put_read(used, operators, answer)))
     }
 
     fn write(
@@ -198,6 +208,7 @@ impl Desk {
 }
 
 const NO_CALL: &str = "no call has this name and this number of fields";
+const NO_READING: &str = "a check is by plain or by a family, a number up to 255";
 
 impl Lists {
     fn new() -> Self {
@@ -289,6 +300,14 @@ impl Lists {
         };
         protocol::put_rule(groups.map(words::component), list, out);
     }
+}
+
+/// What a reading or a check accepts: the octets used, and the operators.
+fn put_read(used: usize, operators: usize, answer: &mut Vec<u8>) {
+    answer.extend_from_slice(b"ok ");
+    protocol::put_number(used as u64, answer);
+    answer.push(b' ');
+    protocol::put_number(operators as u64, answer);
 }
 
 /// A number of places to be lent.

@@ -59,6 +59,20 @@ fn what_cannot_be_read_is_answered_bad_and_the_next_line_is_read() {
         "plain_read\t00\t18446744073709551616,0".to_string(),
         "plain_read\t00\t0,0\r".to_string(),
         "std_read5\t00\t0,0".to_string(),
+        "check".to_string(),
+        "check\t4".to_string(),
+        "check\t4\t00\t0,0".to_string(),
+        "check 4 00".to_string(),
+        "CHECK\t4\t00".to_string(),
+        "check\t\t00".to_string(),
+        "check\tPlain\t00".to_string(),
+        "check\tplain_read\t00".to_string(),
+        "check\t04\t00".to_string(),
+        "check\t256\t00".to_string(),
+        "check\t4\t".to_string(),
+        "check\t4\t0".to_string(),
+        "check\t5\t0g".to_string(),
+        "check\tplain\tf0".to_string(),
         "plain_write\t\t-\t-\t1".to_string(),
         "plain_write\t-\t\t-\t1".to_string(),
         "plain_write\t-\t1,\t-\t1".to_string(),
@@ -124,18 +138,21 @@ fn long_lines_and_many_lines_are_answered_each_by_one() {
     let too_long = format!("plain_read\t{}\t0,0\n", "00".repeat(4098));
     let far_too_long = format!("plain_read\t{}\t0,0\n", "00".repeat(100_000));
     let most = format!("std_read4\tFFFF04{}8119\t2047,2047\n", "0119".repeat(2046));
-    let mut input = too_long + &far_too_long + &most;
+    let checked = most.replace("std_read4", "check\tplain");
+    let checked = checked.replace("\t2047,2047", "") + &"check\t4\t08050350455A9101BB\n".repeat(2);
+    let mut input = too_long + &far_too_long + &most + &checked;
     input += &"std_read4\t08050350455A9101BB\t3,3\n".repeat(20_000);
     let text = String::from_utf8(answer(&[], input.as_bytes()).stdout).unwrap();
     let answers: Vec<&str> = text.lines().collect();
-    assert_eq!(answers.len(), 20_003);
+    assert_eq!(answers.len(), 20_006);
     assert_eq!(answers[..2], ["err 8 4098", "err 8 100000"]);
     assert_eq!(
         answers[2],
         format!("ok 4097 2047 4:{}81=25", "01=25,".repeat(2046))
     );
+    assert_eq!(answers[3..6], ["ok 4097 2047", "ok 9 3", "ok 9 3"]);
     let expected = "ok 9 3 5:03=80,45=90,91=443";
-    assert!(answers[3..].iter().all(|&answer| answer == expected));
+    assert!(answers[6..].iter().all(|&answer| answer == expected));
 }
 
 #[test]
@@ -165,6 +182,7 @@ fn the_command_line_is_checked() {
         "plain_read",
         "std_read4",
         "std_read6",
+        "check",
         "plain_write",
         "std_write",
         "match",

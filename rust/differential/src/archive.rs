@@ -1,20 +1,23 @@
 //! The proved code, by the calls of the Rust crate over its archive.
 
 use crate::stored::Stored;
-use crate::{Answer, Form};
-use krubbadin::surface;
+use crate::Form;
+use krubbadin::surface::{self, Answer};
 
-/// The crate's answer as the peers' are told.
-#[inline]
-fn told(answer: surface::Answer) -> Answer {
-    Answer {
-        status: answer.status,
-        first: answer.first,
-        second: answer.second,
+/// The crate's answer as the peers' are told. What is timed does without: a copy waits for the call's
+/// stores, which is no part of the call.
+impl From<Answer> for crate::Answer {
+    fn from(answer: Answer) -> Self {
+        crate::Answer {
+            status: answer.status,
+            first: answer.first,
+            second: answer.second,
+        }
     }
 }
 
 /// What the surface asks for: 0 is the plain reading or writing, which looks at no family.
+#[inline]
 fn asked(form: Form) -> (u8, u8) {
     match form {
         Form::Plain => (0, 0),
@@ -32,9 +35,14 @@ pub fn read(
     octets: &mut [u8],
 ) -> Answer {
     let (standard, family) = asked(form);
-    told(surface::read(
-        standard, family, input, words, values, octets,
-    ))
+    surface::read(standard, family, input, words, values, octets)
+}
+
+/// Checks a rule: used, and how many operators.
+#[inline]
+pub fn check(form: Form, input: &[u8]) -> Answer {
+    let (standard, family) = asked(form);
+    surface::check(standard, family, input)
 }
 
 /// Writes a rule that stands in lent words and lists: how many octets.
@@ -47,38 +55,26 @@ pub fn write(
     output: &mut [u8],
 ) -> Answer {
     let (standard, family) = asked(form);
-    told(surface::write(
-        standard, family, words, values, octets, output,
-    ))
+    surface::write(standard, family, words, values, octets, output)
 }
 
 /// Whether the rule at the front of lent words matches a packet: 1 or 0.
 #[inline]
 pub fn matches(rule: &Stored, packet: &[u64]) -> Answer {
-    told(surface::matches(
-        &rule.words,
-        &rule.values,
-        &rule.octets,
-        packet,
-    ))
+    surface::matches(&rule.words, &rule.values, &rule.octets, packet)
 }
 
 /// Which of two rules precedes: 1 the first, 2 the other, 0 neither.
 #[inline]
 pub fn rank(one: &Stored, other: &Stored) -> Answer {
-    told(surface::rank(
+    surface::rank(
         (&one.words, &one.values, &one.octets),
         (&other.words, &other.values, &other.octets),
-    ))
+    )
 }
 
 /// Which of the rules that stand one after another in lent words decides: 1 and its place, or 0.
 #[inline]
 pub fn choose(table: &Stored, packet: &[u64]) -> Answer {
-    told(surface::choose(
-        &table.words,
-        &table.values,
-        &table.octets,
-        packet,
-    ))
+    surface::choose(&table.words, &table.values, &table.octets, packet)
 }

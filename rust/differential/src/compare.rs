@@ -12,8 +12,9 @@ use std::process;
 const ENOUGH: u64 = 20;
 
 pub struct Comparison {
-    /// Inputs compared, and those that differ.
+    /// Inputs compared, those of them that were checked besides being read, and differences.
     pub compared: u64,
+    pub checked: u64,
     pub differ: u64,
     /// Calls of the proved code: an input is tried with several amounts of room.
     pub calls: u64,
@@ -31,6 +32,7 @@ impl Comparison {
     pub fn new() -> Self {
         Comparison {
             compared: 0,
+            checked: 0,
             differ: 0,
             calls: 0,
             answers: BTreeMap::new(),
@@ -61,15 +63,17 @@ impl Comparison {
     }
 
     pub fn last_line(&self) -> String {
-        format!("{} compared, {} differ", self.compared, self.differ)
+        let compared = self.compared + self.checked;
+        format!("{compared} compared, {} differ", self.differ)
     }
 
     /// Compares a reading: with room to spare, with just enough and with too little. Where the input
-    /// is refused, room does not matter.
+    /// is refused, room does not matter. The same input is checked.
     pub fn reading(&mut self, form: Form, input: &[u8]) {
         let turn = self.compared as usize;
         let answer = peers::read(form, input, &mut self.stored);
         self.count(answer, "accepted");
+        self.checking(form, input, answer);
         if !answer.is_accepted() {
             let lent = [
                 room(64, 0, 0),
@@ -108,13 +112,13 @@ impl Comparison {
     fn same_reading(&mut self, form: Form, input: &[u8], answer: Answer, room: Room) -> bool {
         self.calls += 1;
         let turn = self.calls;
-        let found = archive::read(
+        let found = Answer::from(archive::read(
             form,
             input,
             self.words.lend(room.words, turn),
             self.values.lend(room.values, turn),
             self.octets.lend(room.octets, turn),
-        );
+        ));
         let wanted = match answer.status {
             0 => room.answer(answer),
             _ => answer,
@@ -152,6 +156,24 @@ impl Comparison {
         false
     }
 
+    /// Compares a check with what must come of a reading that has room. The validator that is timed
+    /// beside it is held to the same answer.
+    fn checking(&mut self, form: Form, input: &[u8], wanted: Answer) {
+        self.calls += 1;
+        self.checked += 1;
+        let found = Answer::from(archive::check(form, input));
+        let timed = peers::timed_check(form, input);
+        if found == wanted && timed == wanted {
+            return;
+        }
+        self.difference(&[
+            format!("differ: {form} check of {}", hex(input)),
+            format!("  proved: {}", check_text(found)),
+            format!("  wanted: {}", check_text(wanted)),
+            format!("  timed: {}", check_text(timed)),
+        ]);
+    }
+
     /// Compares a writing, with room as in `reading`.
     pub fn writing(&mut self, form: Form, record: &Stored) {
         let turn = self.compared as usize;
@@ -184,7 +206,13 @@ impl Comparison {
         let words = self.words.lend(own + behind, turn);
         words[..own].copy_from_slice(&record.words);
         let output = self.output.lend(room, turn);
-        let found = archive::write(form, words, &record.values, &record.octets, output);
+        let found = Answer::from(archive::write(
+            form,
+            words,
+            &record.values,
+            &record.octets,
+            output,
+        ));
         let octets = match wanted.status {
             0 => &self.written[..],
             _ => &[],
@@ -258,14 +286,22 @@ fn reading_text(answer: Answer, lists: (&[u64], &[u64], &[u8])) -> String {
         return refusal_text(answer);
     }
     let (words, values, octets) = lists;
+    let told = check_text(answer);
     let operators = front(values, answer.second);
     let record = record_text(
         front(words, WORDS as u64),
         operators,
         front(octets, answer.second),
     );
+    format!("{told}, {record}")
+}
+
+fn check_text(answer: Answer) -> String {
+    if !answer.is_accepted() {
+        return refusal_text(answer);
+    }
     let (used, operators) = (answer.first, answer.second);
-    format!("accepted, used {used}, operators {operators}, {record}")
+    format!("accepted, used {used}, operators {operators}")
 }
 
 fn writing_text(answer: Answer, output: &[u8]) -> String {

@@ -19,7 +19,7 @@ impl Comparison {
             wanted,
             ["does not match", "matches"][wanted.first as usize % 2],
         );
-        let found = archive::matches(rule, packet);
+        let found = Answer::from(archive::matches(rule, packet));
         self.same("match", [found, wanted], &[], &[rule], packet);
     }
 
@@ -28,7 +28,7 @@ impl Comparison {
         let wanted = peers::rank(one, other);
         let told = ["equal", "the first precedes", "the second precedes"];
         self.count(wanted, told[wanted.first as usize % 3]);
-        let found = archive::rank(one, other);
+        let found = Answer::from(archive::rank(one, other));
         let timed = peers::timed_rank(one, other);
         self.same("ranking", [found, wanted], &timed, &[one, other], &[]);
     }
@@ -37,7 +37,7 @@ impl Comparison {
     pub fn choosing(&mut self, table: &Stored, packet: &[u64]) {
         let wanted = peers::choose(table, packet);
         self.count(wanted, ["no rule", "a rule"][wanted.first as usize % 2]);
-        let found = archive::choose(table, packet);
+        let found = Answer::from(archive::choose(table, packet));
         let timed = peers::timed_choose(table, packet);
         self.same("choice", [found, wanted], &timed, &[table], packet);
     }

@@ -4,8 +4,8 @@
 //! original Rust (`oracle`) for the plain reading and writing, by `standard` for the others.
 //! The crate `inputs` and `records` make what readings and writings are asked, `compare` asks it and
 //! compares; `edges`, `flows`, `packets` and `tables` make what matching, ranking and choosing are
-//! asked, `decisions` asks it and compares. `wordwise` is a chooser to be timed. A rule crosses the
-//! surface as words; `stored` knows that form, `packets` that of a packet, and `neutral` that of the
+//! asked, `decisions` asks it and compares. `validator` is a check and `wordwise` a chooser to be
+//! timed. A rule crosses the surface as words; `stored` knows that form, `packets` that of a packet, and `neutral` that of the
 //! crate `protocol`, by which `requests` has the texts of stored answers. `samples` has
 //! those that are stored. `src/bin` has the programs.
 //! Without the feature `archive` nothing of the proved code is linked, nor compared with.
@@ -27,6 +27,7 @@ pub mod requests;
 pub mod samples;
 pub mod stored;
 pub mod tables;
+pub mod validator;
 pub mod wordwise;
 
 pub use inputs::{Form, LONGEST_BODY, LONGEST_INPUT};

@@ -3,7 +3,7 @@
 
 use crate::packets;
 use crate::stored::{flow, original, parts, standard_rule, Stored, WORDS};
-use crate::{refusal, wordwise, Answer, Form, LONGEST_INPUT, MOST_RULES};
+use crate::{refusal, validator, wordwise, Answer, Form, LONGEST_INPUT, MOST_RULES};
 use oracle::error::EncodingError;
 use oracle::flowspec::{encode_flowspec_nlri, parse_flowspec_nlri, FlowSpecError};
 use standard::{Flow, Refusal};
@@ -15,6 +15,28 @@ pub fn read(form: Form, input: &[u8], stored: &mut Stored) -> Answer {
         Form::Plain => plain_read(input, stored),
         Form::Standard(family) => standard_read(family, input, stored),
     }
+}
+
+/// As `read`, but for the rule, by the way that is timed.
+pub fn timed_check(form: Form, input: &[u8]) -> Answer {
+    use validator::Refusal;
+    let (status, first, second) = match validator::check(form, input) {
+        Ok(checked) => return Answer::accepted(checked.used, checked.operators),
+        Err(Refusal::InsufficientData) => (refusal::INSUFFICIENT_DATA, 0, 0),
+        Err(Refusal::InvalidComponentOrder { previous, found }) => (
+            refusal::INVALID_COMPONENT_ORDER,
+            previous.into(),
+            found.into(),
+        ),
+        Err(Refusal::InvalidComponentType(found)) => {
+            (refusal::INVALID_COMPONENT_TYPE, found.into(), 0)
+        }
+        Err(Refusal::InvalidPrefix) => (refusal::INVALID_PREFIX, 0, 0),
+        Err(Refusal::InvalidOperator(octet)) => (refusal::INVALID_OPERATOR, octet.into(), 0),
+        Err(Refusal::InputTooLong(length)) => (refusal::INPUT_TOO_LONG, length as u64, 0),
+        Err(Refusal::BadFamily(family)) => (refusal::BAD_FAMILY, family.into(), 0),
+    };
+    Answer::refused(status, first, second)
 }
 
 /// Writes; `written` holds the octets afterwards, none where the rule is refused.

@@ -333,11 +333,18 @@ impl Answer {
     /// # Panics
     ///
     /// If the status is above 14, which no call answers.
+    #[inline]
     pub fn accepted(self) -> Result<(usize, usize), Refusal> {
+        match self.status {
+            0 => Ok((self.first as usize, self.second as usize)),
+            _ => Err(self.refused()),
+        }
+    }
+
+    fn refused(self) -> Refusal {
         // What a refusal carries as an octet is below 256, and a count fits a usize: that is proved.
         let (octet, count) = (self.first as u8, self.first as usize);
-        Err(match self.status {
-            0 => return Ok((count, self.second as usize)),
+        match self.status {
             1 => Refusal::InsufficientData,
             2 => Refusal::InvalidComponentOrder {
                 expected_greater_than: octet,
@@ -356,6 +363,6 @@ impl Answer {
             13 => Refusal::BadPacket,
             14 => Refusal::MixedFamily(count),
             other => unreachable!("no call answers status {other}"),
-        })
+        }
     }
 }

@@ -1,4 +1,4 @@
-//! BGP FlowSpec rules (RFC 8955, RFC 8956), read, written, matched and ranked by proved code.
+//! BGP FlowSpec rules (RFC 8955, RFC 8956), checked, read, written, matched and ranked by proved code.
 //!
 //! The work is done by libkrubbadin.a, an archive of functions that are proved: each returns on any input, keeps to what it was lent, and
 //! answers exactly what a short definition says. This crate puts Rust's types around them.
@@ -42,6 +42,18 @@
 //! # }
 //! ```
 //!
+//! # To validate alone
+//!
+//! [`check`] says whether octets are a rule, and how many of them it takes, without making the rule; [`check_flowspec_nlri`] says it as the
+//! original reads. They accept and refuse what the readings do, with the same refusals, and allocate nothing:
+//!
+//! ```
+//! use krubbadin::{check, Family, Refusal};
+//!
+//! assert_eq!(check(Family::Ipv4, &[0x06, 0x03, 0x81, 0x06, 0x05, 0x81, 0x50]), Ok(7));
+//! assert_eq!(check(Family::Ipv4, &[0x02, 0x01, 0x21]), Err(Refusal::InvalidPrefix)); // a length of 33
+//! ```
+//!
 //! # What is wrong
 //!
 //! Of a rule that is refused as [`BadRecord`](Refusal::BadRecord) [`why`] says the ground, of a packet that is refused as
@@ -78,9 +90,9 @@ mod text;
 mod why;
 
 pub use error::{EncodingError, FlowSpecError, Refusal};
-pub use nlri::{encode_flowspec_nlri, parse_flowspec_nlri};
+pub use nlri::{check_flowspec_nlri, encode_flowspec_nlri, parse_flowspec_nlri};
 pub use operators::{BitmaskOperator, NumericOperator};
 pub use packet::Packet;
 pub use rules::{FlowSpecComponent, FlowSpecNlri, NetworkPrefix};
-pub use standard::{choose, matches, precedes, rank, read, write, Family, Table};
+pub use standard::{check, choose, matches, precedes, rank, read, write, Family, Table};
 pub use why::{why, Field, Ground};

@@ -1,8 +1,8 @@
-//! Reading and writing as the original does it.
+//! Reading and writing as the original does it, and checking without reading.
 
 use crate::error::{EncodingError, FlowSpecError, Refusal};
 use crate::rules::{FlowSpecComponent, FlowSpecNlri, NetworkPrefix};
-use crate::stored::{list_of, read_rule, write_rule, LONGEST};
+use crate::stored::{check_rule, list_of, read_rule, write_rule, LONGEST};
 use crate::why::why_owned;
 use ipnet::IpNet;
 
@@ -29,11 +29,39 @@ const FIELD: &str = "FlowSpec NLRI total length";
 /// assert_eq!(parse_flowspec_nlri(&[0x05, 0x01]), Err(FlowSpecError::InsufficientData));
 /// ```
 pub fn parse_flowspec_nlri(data: &[u8]) -> Result<FlowSpecNlri, FlowSpecError> {
-    let within = &data[..data.len().min(LONGEST)];
-    match read_rule(0, 0, within).map_err(FlowSpecError::try_from) {
-        Ok((rule, _)) => Ok(rule),
-        Err(Ok(error)) => Err(error),
-        Err(Err(other)) => unreachable!("the input is short enough and there is room: {other}"),
+    let (rule, _) = read_rule(0, 0, within(data)).map_err(original)?;
+    Ok(rule)
+}
+
+/// Checks an NLRI as the original parses it, without making the rule: how many octets it takes, its length's own among them.
+///
+/// It accepts and refuses what [`parse_flowspec_nlri`] does, with the same errors, and allocates nothing. [`crate::check`] checks by the RFCs.
+///
+/// # Errors
+///
+/// As the original's.
+///
+/// ```
+/// use krubbadin::{check_flowspec_nlri, FlowSpecError};
+///
+/// assert_eq!(check_flowspec_nlri(&[0x03, 0x03, 0x81, 0x06, 0x00]), Ok(4));
+/// assert_eq!(check_flowspec_nlri(&[0x03, 0x03, 0x89, 0x06]), Err(FlowSpecError::InvalidOperator(0x89)));
+/// assert_eq!(check_flowspec_nlri(&[]), Err(FlowSpecError::InsufficientData));
+/// ```
+pub fn check_flowspec_nlri(data: &[u8]) -> Result<usize, FlowSpecError> {
+    check_rule(0, 0, within(data)).map_err(original)
+}
+
+/// As much of the data as an NLRI can have.
+fn within(data: &[u8]) -> &[u8] {
+    &data[..data.len().min(LONGEST)]
+}
+
+/// The error of a refusal of the plain reading, where the input is not too long and room is not short.
+fn original(refusal: Refusal) -> FlowSpecError {
+    match FlowSpecError::try_from(refusal) {
+        Ok(error) => error,
+        Err(other) => unreachable!("the input is short enough and there is room: {other}"),
     }
 }
 

@@ -1,9 +1,9 @@
-//! Reading, writing, matching, ranking and choosing by RFC 8955 and RFC 8956.
+//! Checking, reading, writing, matching, ranking and choosing by RFC 8955 and RFC 8956.
 
 use crate::error::Refusal;
 use crate::packet::Packet;
 use crate::rules::FlowSpecNlri;
-use crate::stored::{read_rule, with_rule, write_rule, Many};
+use crate::stored::{check_rule, read_rule, with_rule, write_rule, Many};
 use crate::surface;
 use std::cmp::Ordering;
 
@@ -68,6 +68,28 @@ impl TryFrom<u8> for Family {
 /// ```
 pub fn read(family: Family, input: &[u8]) -> Result<(FlowSpecNlri, usize), Refusal> {
     read_rule(1, family.number(), input)
+}
+
+/// Checks a rule by the RFCs, without making it: how many octets it takes. Those that follow belong to someone else.
+///
+/// It accepts and refuses what [`read`] does, with the same refusals, and allocates nothing. [`check_flowspec_nlri`](crate::check_flowspec_nlri)
+/// checks as the original reads.
+///
+/// # Errors
+///
+/// The refusals 1 to 4.
+///
+/// ```
+/// use krubbadin::{check, Family, Refusal};
+///
+/// // to 192.0.2.0/24, TCP, port 25, and the next one's length
+/// let input = [0x0B, 0x01, 0x18, 0xC0, 0x00, 0x02, 0x03, 0x81, 0x06, 0x04, 0x81, 0x19, 0x00];
+/// assert_eq!(check(Family::Ipv4, &input), Ok(12));
+/// assert_eq!(check(Family::Ipv6, &input), Err(Refusal::InvalidPrefix)); // offset 192 is past length 24
+/// assert_eq!(check(Family::Ipv4, &input[..11]), Err(Refusal::InsufficientData));
+/// ```
+pub fn check(family: Family, input: &[u8]) -> Result<usize, Refusal> {
+    check_rule(1, family.number(), input)
 }
 
 /// Writes a rule by the RFCs.

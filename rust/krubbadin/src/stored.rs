@@ -8,6 +8,7 @@ use crate::operators::{BitmaskOperator, NumericOperator};
 use crate::rules::{FlowSpecComponent, FlowSpecNlri, NetworkPrefix};
 use crate::surface::{self, COUNT, FAMILY, FIRST, OPERATORS, WORDS};
 use ipnet::{IpNet, Ipv4Net, Ipv6Net};
+use std::mem::MaybeUninit;
 use std::net::IpAddr;
 
 /// The most components that a rule has.
@@ -26,38 +27,41 @@ pub(crate) struct Many {
 }
 
 /// Reads a rule: what it is, and the octets used.
+#[inline]
 pub(crate) fn read_rule(
     standard: u8,
     family: u8,
     input: &[u8],
 ) -> Result<(FlowSpecNlri, usize), Refusal> {
     let places = most_operators(input);
-    if places <= FEW {
-        read_within(standard, family, input, &mut [0; FEW], &mut [0; FEW])
+    let mut words = MaybeUninit::uninit();
+    let mut few = ([MaybeUninit::uninit(); FEW], [MaybeUninit::uninit(); FEW]);
+    let mut many;
+    let (values, octets) = if places <= FEW {
+        (&mut few.0[..], &mut few.1[..])
     } else {
-        let (mut values, mut octets) = (vec![0; places], vec![0; places]);
-        read_within(standard, family, input, &mut values, &mut octets)
-    }
+        many = (Vec::with_capacity(places), Vec::with_capacity(places));
+        (many.0.spare_capacity_mut(), many.1.spare_capacity_mut())
+    };
+    let read = surface::read_anew(standard, family, input, &mut words, values, octets)?;
+    Ok((rule_of(read.words, read.values, read.octets), read.used))
 }
 
-fn read_within(
-    standard: u8,
-    family: u8,
-    input: &[u8],
-    values: &mut [u64],
-    octets: &mut [u8],
-) -> Result<(FlowSpecNlri, usize), Refusal> {
-    let mut words = [0; WORDS];
-    let answer = surface::read(standard, family, input, &mut words, values, octets);
-    let (used, _) = answer.accepted()?;
-    Ok((rule_of(&words, values, octets), used))
+/// Checks a rule: the octets used.
+pub(crate) fn check_rule(standard: u8, family: u8, input: &[u8]) -> Result<usize, Refusal> {
+    let (used, _) = surface::check(standard, family, input).accepted()?;
+    Ok(used)
 }
 
 /// The rule that words name, whose operators begin where the lists do.
+#[inline]
 fn rule_of(words: &[u64], values: &[u64], octets: &[u8]) -> FlowSpecNlri {
-    let groups = words.chunks_exact(4).take(words[COUNT] as usize);
-    let components = groups.map(|group| component(group, values, octets));
-    FlowSpecNlri::new(components.collect())
+    let count = words[COUNT] as usize;
+    let mut components = Vec::with_capacity(count);
+    for group in words[..4 * count].chunks_exact(4) {
+        push_component(group, values, octets, &mut components);
+    }
+    FlowSpecNlri { components }
 }
 
 /// No input has more operators: each takes two octets of it at least.
@@ -316,56 +320,80 @@ fn prefix_words(kind: u64, prefix: &NetworkPrefix, offset: Option<u8>) -> [u64; 
     [kind + 16 * form, length + 256 * offset, high, low]
 }
 
-/// The component that four words name, which a reading wrote, or which were put in from a component.
-fn component(group: &[u64], values: &[u64], octets: &[u8]) -> FlowSpecComponent {
+/// Adds the component that four words name, which a reading wrote, or which were put in from a component, where there is room for it.
+///
+/// Each kind is pushed by itself, right after the room is seen to, so that a component is made where it stands and not copied there: the
+/// copy waits for what was just written, some nanoseconds each.
+#[inline]
+fn push_component(
+    group: &[u64],
+    values: &[u64],
+    octets: &[u8],
+    components: &mut Vec<FlowSpecComponent>,
+) {
+    use FlowSpecComponent::*;
     let (kind, form) = (group[0] % 16, group[0] / 16);
-    if kind > 2 {
-        let (start, count) = (group[1] as usize, group[2] as usize);
-        let places = start..start + count;
-        return list(kind, &values[places.clone()], &octets[places]);
+    if kind <= 2 {
+        let (length, offset) = ((group[1] % 256) as u8, (group[1] / 256) as u8);
+        let prefix = prefix_of(form, length, group[2], group[3]);
+        has_room(components);
+        return match (kind, form) {
+            (1, 0 | 1) => components.push(DestinationPrefix(prefix)),
+            (1, _) => components.push(DestinationIpv6Prefix { offset, prefix }),
+            (_, 0 | 1) => components.push(SourcePrefix(prefix)),
+            _ => components.push(SourceIpv6Prefix { offset, prefix }),
+        };
     }
-    let (length, offset) = ((group[1] % 256) as u8, (group[1] / 256) as u8);
-    let net = match form {
-        0 | 2 => Ipv4Net::new((group[2] as u32).into(), length).map(IpNet::V4),
-        _ => {
-            let address = u128::from(group[2]) << 64 | u128::from(group[3]);
-            Ipv6Net::new(address.into(), length).map(IpNet::V6)
-        }
-    };
-    let prefix = NetworkPrefix::from(net.expect("a length that was read is within its address"));
-    match (kind, form) {
-        (1, 0 | 1) => FlowSpecComponent::DestinationPrefix(prefix),
-        (1, _) => FlowSpecComponent::DestinationIpv6Prefix { offset, prefix },
-        (_, 0 | 1) => FlowSpecComponent::SourcePrefix(prefix),
-        _ => FlowSpecComponent::SourceIpv6Prefix { offset, prefix },
+    let (start, count) = (group[1] as usize, group[2] as usize);
+    let places = start..start + count;
+    let (values, octets) = (&values[places.clone()], &octets[places]);
+    if matches!(kind, 9 | 12) {
+        let list = operators(values, octets, bitmask_of);
+        has_room(components);
+        return match kind {
+            9 => components.push(TcpFlags(list)),
+            _ => components.push(Fragment(list)),
+        };
+    }
+    let list = operators(values, octets, numeric_of);
+    has_room(components);
+    match kind {
+        3 => components.push(IpProtocol(list)),
+        4 => components.push(Port(list)),
+        5 => components.push(DestinationPort(list)),
+        6 => components.push(SourcePort(list)),
+        7 => components.push(IcmpType(list)),
+        8 => components.push(IcmpCode(list)),
+        10 => components.push(PacketLength(list)),
+        11 => components.push(Dscp(list)),
+        _ => components.push(FlowLabel(list)),
     }
 }
 
-fn list(kind: u64, values: &[u64], octets: &[u8]) -> FlowSpecComponent {
-    let pairs = || octets.iter().zip(values);
-    let numeric = || {
-        pairs()
-            .map(|(&octet, &value)| numeric_of(octet, value))
-            .collect()
+/// That a push does not have to grow the list.
+#[inline]
+fn has_room(components: &Vec<FlowSpecComponent>) {
+    assert!(components.len() < components.capacity());
+}
+
+fn prefix_of(form: u64, length: u8, high: u64, low: u64) -> NetworkPrefix {
+    let net = match form {
+        0 | 2 => Ipv4Net::new((high as u32).into(), length).map(IpNet::V4),
+        _ => {
+            let address = u128::from(high) << 64 | u128::from(low);
+            Ipv6Net::new(address.into(), length).map(IpNet::V6)
+        }
     };
-    let bitmask = || {
-        pairs()
-            .map(|(&octet, &value)| bitmask_of(octet, value))
-            .collect()
-    };
-    match kind {
-        3 => FlowSpecComponent::IpProtocol(numeric()),
-        4 => FlowSpecComponent::Port(numeric()),
-        5 => FlowSpecComponent::DestinationPort(numeric()),
-        6 => FlowSpecComponent::SourcePort(numeric()),
-        7 => FlowSpecComponent::IcmpType(numeric()),
-        8 => FlowSpecComponent::IcmpCode(numeric()),
-        9 => FlowSpecComponent::TcpFlags(bitmask()),
-        10 => FlowSpecComponent::PacketLength(numeric()),
-        11 => FlowSpecComponent::Dscp(numeric()),
-        12 => FlowSpecComponent::Fragment(bitmask()),
-        _ => FlowSpecComponent::FlowLabel(numeric()),
-    }
+    NetworkPrefix::from(net.expect("a length that was read is within its address"))
+}
+
+/// The operators of a list.
+#[inline]
+fn operators<T>(values: &[u64], octets: &[u8], operator: impl Fn(u8, u64) -> T) -> Vec<T> {
+    let mut list = Vec::with_capacity(values.len());
+    let pairs = octets.iter().zip(values);
+    list.extend(pairs.map(|(&octet, &value)| operator(octet, value)));
+    list
 }
 
 /// The operator of an octet without reserved bits, as a reading leaves it.

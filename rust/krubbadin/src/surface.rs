@@ -43,6 +43,10 @@
 
 #![allow(unsafe_code)]
 
+use crate::error::Refusal;
+use std::mem::MaybeUninit;
+use std::slice;
+
 pub use crate::why::{why_packet, why_rule};
 
 /// The words of a rule.
@@ -157,6 +161,12 @@ mod exported {
             octets: *mut u8,
             octets_len: usize,
         ) -> Answer;
+        pub fn krubbadin_check(
+            standard: u8,
+            family: u8,
+            input: *const u8,
+            input_len: usize,
+        ) -> Answer;
         pub fn krubbadin_write(
             standard: u8,
             family: u8,
@@ -256,6 +266,74 @@ pub fn read(
             octets.len(),
         )
     }
+}
+
+/// What [`read_anew`] read: the octets used, the rule's words, its operators.
+pub(crate) struct Anew<'a> {
+    pub used: usize,
+    pub words: &'a [u64; WORDS],
+    pub values: &'a [u64],
+    pub octets: &'a [u8],
+}
+
+/// As [`read`], into places that hold nothing yet.
+#[inline]
+pub(crate) fn read_anew<'a>(
+    standard: u8,
+    family: u8,
+    input: &[u8],
+    words: &'a mut MaybeUninit<[u64; WORDS]>,
+    values: &'a mut [MaybeUninit<u64>],
+    octets: &'a mut [MaybeUninit<u8>],
+) -> Result<Anew<'a>, Refusal> {
+    // SAFETY: as in `read`. What the callee answers and writes is proved whatever the places held.
+    let answer = unsafe {
+        exported::krubbadin_read(
+            standard,
+            family,
+            input.as_ptr(),
+            input.len(),
+            words.as_mut_ptr().cast(),
+            WORDS,
+            values.as_mut_ptr().cast(),
+            values.len(),
+            octets.as_mut_ptr().cast(),
+            octets.len(),
+        )
+    };
+    let (used, operators) = answer.accepted()?;
+    let (values, octets) = (&values[..operators], &octets[..operators]);
+    // SAFETY: an accepted reading wrote all 64 words and so many places of each list: that is proved.
+    unsafe {
+        Ok(Anew {
+            used,
+            words: words.assume_init_ref(),
+            values: slice::from_raw_parts(values.as_ptr().cast(), operators),
+            octets: slice::from_raw_parts(octets.as_ptr().cast(), operators),
+        })
+    }
+}
+
+/// Checks a rule and writes nothing: answers what [`read`] with room for all would. With `standard` 0 it goes by the plain reading, which
+/// looks at no family; else by the standard one in the family, 4 or 6.
+///
+/// Accepted: the octets used, and how many operators there are, which is how many places [`read`] needs in each list. Refusals: 8 (plain)
+/// or 11 (standard), then 1 to 5 as the walk meets them; never 9.
+///
+/// ```
+/// use krubbadin::surface::check;
+///
+/// let input = [0x08, 0x05, 0x03, 0x50, 0x45, 0x5A, 0x91, 0x01, 0xBB];
+/// let answer = check(1, 4, &input);
+/// assert_eq!((answer.status, answer.first, answer.second), (0, 9, 3));
+/// assert_eq!(check(1, 4, &input[..8]).status, 1);
+/// let answer = check(1, 5, &input);
+/// assert_eq!((answer.status, answer.first), (11, 5));
+/// ```
+#[inline]
+pub fn check(standard: u8, family: u8, input: &[u8]) -> Answer {
+    // SAFETY: as in `read`.
+    unsafe { exported::krubbadin_check(standard, family, input.as_ptr(), input.len()) }
 }
 
 /// Writes the rule that stands in the first 64 words, its operators in the two lists, to `out`. With `standard` 0 it is the plain writing,

@@ -188,6 +188,7 @@ fn at_guard_pages() -> Calls {
     let mut calls = Calls::default();
     for _ in 0..TURNS {
         calls.add(border.read(&mut random));
+        calls.add(border.check(&mut random));
         calls.add(border.write(&mut random));
         calls.add(border.match_one(&mut random));
         calls.add(border.rank(&mut random));
@@ -248,6 +249,19 @@ impl Border {
             let values = self.values.filled(operators, "read, values");
             let octets = self.octets.filled(operators, "read, octets");
             (answer, (words, values, octets))
+        })
+    }
+
+    fn check(&mut self, random: &mut Random) -> Calls {
+        let (standard, family) = reading(random);
+        let mut input = Vec::new();
+        inputs::random(form(standard, family), random, &mut input);
+        input.truncate(2 * LONGEST_INPUT);
+        twice(|side| {
+            self.input.put(&input, side);
+            let answer = surface::check(standard, family, self.input.list());
+            self.input.unchanged("check, input");
+            (answer, ())
         })
     }
 
@@ -604,7 +618,7 @@ mod painted {
 }
 
 /// The most stack that each call takes, over many inputs.
-fn stack_taken() -> [(&'static str, usize); 7] {
+fn stack_taken() -> [(&'static str, usize); 8] {
     let mut random = Random::new(9);
     let tables: Vec<Table> = (0..400).map(|_| Table::damaged(&mut random, 1)).collect();
     let many: Vec<Table> = (0..200)
@@ -634,6 +648,13 @@ fn stack_taken() -> [(&'static str, usize); 7] {
                     &mut values,
                     &mut octets,
                 );
+            }
+        }
+    };
+    let mut check = || {
+        for input in &inputs {
+            for (standard, family) in readings {
+                surface::check(standard, family, input);
             }
         }
     };
@@ -683,6 +704,7 @@ fn stack_taken() -> [(&'static str, usize); 7] {
     [
         ("no call", empty),
         ("krubbadin_read", painted::taken(&mut read)),
+        ("krubbadin_check", painted::taken(&mut check)),
         ("krubbadin_write", painted::taken(&mut write)),
         ("krubbadin_match", painted::taken(&mut match_one)),
         ("krubbadin_rank", painted::taken(&mut rank)),

@@ -9,6 +9,7 @@
 //! | request | answer |
 //! |---|---|
 //! | `plain_read OCTETS V,O` (places lent in the lists of values and octets), `std_read4`, `std_read6` | `ok USED OPERATORS RULE` |
+//! | `check FAMILY OCTETS`, the family `plain` for the plain reading | `ok USED OPERATORS` |
 //! | `plain_write COMPONENTS VALUES OCTETS ROOM`, `std_write FAMILY COMPONENTS VALUES OCTETS ROOM` | `ok OCTETS` |
 //! | `match FAMILY OCTETS PACKET` | `yes`, `no` |
 //! | `rank FAMILY OCTETS OCTETS` | `first`, `second`, `equal` |

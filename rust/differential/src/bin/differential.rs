@@ -143,16 +143,20 @@ fn choosing(comparison: &mut Comparison, wanted: &Wanted) {
 /// A part of the run that is told of in lines of its own.
 struct Section<'a> {
     comparison: &'a mut Comparison,
-    name: String,
+    part: String,
+    what: String,
     compared: u64,
+    checked: u64,
     began: Instant,
 }
 
 impl<'a> Section<'a> {
-    fn new(comparison: &'a mut Comparison, name: &str, what: &str) -> Self {
+    fn new(comparison: &'a mut Comparison, part: &str, what: &str) -> Self {
         Section {
-            name: format!("{name} {what}"),
+            part: part.to_string(),
+            what: what.to_string(),
             compared: comparison.compared,
+            checked: comparison.checked,
             began: Instant::now(),
             comparison,
         }
@@ -177,14 +181,19 @@ impl<'a> Section<'a> {
         println!("    of these: {}", ways.join(", "));
     }
 
-    /// Prints what was compared since the last time.
+    /// Prints what was compared since the last time. Checks are of what was read, in the same time.
     fn said(&mut self, which: &str) {
         let compared = self.comparison.compared - self.compared;
+        let checked = self.comparison.checked - self.checked;
         let seconds = self.began.elapsed().as_secs_f64();
         let answers = self.comparison.answers();
-        let name = &self.name;
-        println!("{name} {which}: {compared} in {seconds:.1} s ({answers})");
+        let Section { part, what, .. } = self;
+        println!("{part} {what} {which}: {compared} in {seconds:.1} s ({answers})");
+        if checked != 0 {
+            println!("{part} checks {which}: {checked}, each of an input that was read");
+        }
         self.compared = self.comparison.compared;
+        self.checked = self.comparison.checked;
         self.began = Instant::now();
     }
 }

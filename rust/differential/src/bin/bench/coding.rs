@@ -7,8 +7,20 @@ use differential::{archive, peers, Form, LONGEST_BODY, LONGEST_INPUT, MOST_OPERA
 use inputs::{framed, octets, Random};
 use oracle::flowspec::{encode_flowspec_nlri, parse_flowspec_nlri};
 
-/// The two cases whose times per octet are compared.
-const PORTS: &str = "200-octet port list";
+/// Cases that are timed in other ways too, and their octets.
+pub const SEVEN: &str = "7-octet rule";
+pub const SEVEN_OCTETS: &str = "06 03 81 06 05 81 50";
+pub const FIVE: &str = "5 components, two prefixes";
+pub const FIVE_OCTETS: &str =
+    "18 01 18 C0 00 02 02 18 CB 00 71 03 81 06 05 03 50 45 5A 91 01 BB 09 81 02";
+pub const PORTS: &str = "200-octet port list";
+/// Refused by the walk: a value that is missing, a reserved bit, a falling type.
+pub const REFUSED: [(&str, &str); 3] = [
+    ("refusal: short", "05 03 81 06 05 81"),
+    ("refusal: bad operator", "06 03 81 06 05 89 50"),
+    ("refusal: bad order", "06 05 81 50 03 81 06"),
+];
+/// The time per octet of these is compared with that of the shorter list.
 const MANY_PORTS: &str = "4,095-octet port list";
 
 /// At most so much of the original's time.
@@ -17,7 +29,7 @@ const REFUSAL: f64 = 1.0;
 /// At most so much of the plain call's time.
 const STANDARD: f64 = 1.2;
 
-const ORIGINAL: &str = "the original's time";
+pub const ORIGINAL: &str = "the original's time";
 const PLAIN: &str = "the plain call's time";
 
 /// The family of the standard calls.
@@ -26,8 +38,9 @@ const FAMILY: Form = Form::Standard(4);
 struct Case {
     name: &'static str,
     input: Vec<u8>,
-    /// The bar of its plain parsing, if it has one.
+    /// The bars of its plain parsing and encoding, if it has them.
     parse: Option<f64>,
+    encode: Option<f64>,
 }
 
 /// Times all; nothing where the answers differ.
@@ -57,7 +70,8 @@ fn plain(accepted: &[Case], refused: &[Case], bars: &mut Vec<Bar>) {
         let times = encode_times(case);
         encode.push(times[0]);
         let ratio = row("encode", case.name, case.input.len(), times);
-        bars.push(bar("encode", case, ratio, ORIGINAL, ENCODE));
+        let bar = |most| bar("encode", case, ratio, ORIGINAL, most);
+        bars.extend(case.encode.map(bar));
     }
     bars.push(growth("parse", accepted, &parse));
     bars.push(growth("encode", accepted, &encode));
@@ -93,39 +107,41 @@ fn bar(call: &str, case: &Case, figure: f64, of: &str, most: f64) -> Bar {
 }
 
 fn accepted_cases() -> Vec<Case> {
-    let case = |name, input, parse| Case { name, input, parse };
-    let five = "18 01 18 C0 00 02 02 18 CB 00 71 03 81 06 05 03 50 45 5A 91 01 BB 09 81 02";
+    let case = |name, input, parse, encode| Case {
+        name,
+        input,
+        parse,
+        encode: Some(encode),
+    };
     vec![
-        case("7-octet rule", octets("06 03 81 06 05 81 50"), Some(0.25)),
-        case("5 components, two prefixes", octets(five), Some(0.25)),
-        case(PORTS, framed(&ports(200)), Some(0.45)),
-        case(MANY_PORTS, framed(&ports(LONGEST_BODY)), None),
+        case(SEVEN, octets(SEVEN_OCTETS), Some(0.26), ENCODE),
+        case(FIVE, octets(FIVE_OCTETS), Some(0.26), 0.32),
+        case(PORTS, framed(&ports(200)), Some(0.45), ENCODE),
+        case(MANY_PORTS, framed(&ports(LONGEST_BODY)), None, ENCODE),
         case(
             "4,095 octets, one-octet values",
             framed(&list(|| 0)),
             Some(0.55),
+            ENCODE,
         ),
         case(
             "4,087 octets, eight-octet values",
             framed(&list(|| 3)),
-            Some(0.55),
+            Some(0.4),
+            ENCODE,
         ),
-        case("random widths", framed(&random_widths()), Some(1.25)),
+        case("random widths", framed(&random_widths()), Some(1.0), ENCODE),
     ]
 }
 
-/// Refused by the walk: a value that is missing, a reserved bit, a falling type.
 fn refused_cases() -> Vec<Case> {
-    let case = |name, input| Case {
+    let case = |(name, input)| Case {
         name,
         input: octets(input),
         parse: Some(REFUSAL),
+        encode: None,
     };
-    vec![
-        case("refusal: short", "05 03 81 06 05 81"),
-        case("refusal: bad operator", "06 03 81 06 05 89 50"),
-        case("refusal: bad order", "06 05 81 50 03 81 06"),
-    ]
+    REFUSED.map(case).into()
 }
 
 /// A body of so many octets: destination ports, of one octet each until the rest comes out, then of

@@ -3,7 +3,7 @@
 //! in records of their own (`standard::direct`), to whom the checks of the stored form are spared.
 //! The bar is the first's time.
 
-use crate::coding::ports;
+use crate::coding::{ports, FIVE_OCTETS};
 use crate::timing::{heading, opaque, repeat, row, times, Bar};
 use differential::compare::Comparison;
 use differential::stored::Stored;
@@ -11,12 +11,13 @@ use differential::{archive, packets, tables, wordwise};
 use inputs::{framed, octets};
 use standard::{direct, Content, Flow, Packet};
 
-/// At most so much of the Rust chooser's time.
-const CHOOSE: f64 = 1.0;
+/// At most so much of the time of the Rust over the same stored form.
+const RANK: f64 = 0.8;
+const CHOOSE: f64 = 0.7;
 /// At most so much more than there are more rules or operators.
 const GROWTH: f64 = 1.1;
 
-const RUST: &str = "the Rust chooser's time";
+pub const RUST: &str = "the Rust chooser's time";
 
 /// How many rules there are to choose from.
 const RULES: [usize; 3] = [1, 8, 64];
@@ -24,10 +25,10 @@ const RULES: [usize; 3] = [1, 8, 64];
 const OPERATORS: [usize; 2] = [8, 64];
 
 /// Rules and a packet, and what is to be seen on them.
-struct Case {
-    name: String,
-    rules: Vec<Flow>,
-    packet: Packet,
+pub struct Case {
+    pub name: String,
+    pub rules: Vec<Flow>,
+    pub packet: Packet,
 }
 
 /// Times all; nothing where the answers differ.
@@ -41,7 +42,13 @@ pub fn bench(bars: &mut Vec<Bar>) -> bool {
     heading("octets", ["proved", "Rust", "parsed"]);
     for (name, one, other) in &pairs {
         let octets = standard::write(one.family, &one.rule).expect("these are good");
-        row("rank", name, octets.len(), rank_times(one, other));
+        let ratio = row("rank", name, octets.len(), rank_times(one, other));
+        bars.push(Bar {
+            what: format!("rank, {name}"),
+            figure: ratio,
+            of: RUST.to_string(),
+            most: RANK,
+        });
     }
     heading("rules", ["proved", "Rust", "parsed"]);
     for case in cases.iter().chain(&lists) {
@@ -86,8 +93,7 @@ fn flow(family: u8, body: &[u8]) -> Flow {
 /// Two rules that are the same, that differ at the front and that differ at the end.
 fn pairs() -> Vec<(&'static str, Flow, Flow)> {
     let five = |host: u8, flags: u8| {
-        let mut body =
-            octets("01 18 C0 00 02 02 18 CB 00 71 03 81 06 05 03 50 45 5A 91 01 BB 09 81 02");
+        let mut body = octets(FIVE_OCTETS).split_off(1);
         (body[3], *body.last_mut().expect("it is not empty")) = (host, flags);
         flow(4, &body)
     };
@@ -101,7 +107,7 @@ fn pairs() -> Vec<(&'static str, Flow, Flow)> {
 }
 
 /// Choices among so many rules.
-fn cases(count: usize) -> Vec<Case> {
+pub fn cases(count: usize) -> Vec<Case> {
     let case = |name: &str, rule: &dyn Fn(u8) -> Flow, packet| Case {
         name: name.to_string(),
         rules: (0..count).map(|place| rule(place as u8)).collect(),
@@ -191,7 +197,7 @@ fn stored(flow: &Flow) -> Stored {
     stored
 }
 
-fn table(rules: &[Flow]) -> Stored {
+pub fn table(rules: &[Flow]) -> Stored {
     let mut table = tables::empty();
     rules
         .iter()

@@ -4,8 +4,11 @@
 //! each counts. The proved code fills lists that are lent once. The original allocates what it
 //! answers, and giving that back is in its time, as it is for its callers.
 
+mod changing;
+mod checking;
 mod coding;
 mod deciding;
+mod owned;
 mod timing;
 
 use differential::stored::WORDS;
@@ -26,7 +29,14 @@ fn main() -> ExitCode {
          answers and frees it within the time."
     );
     let mut bars = Vec::new();
-    if !coding::bench(&mut bars) || !deciding::bench(&mut bars) {
+    let parts = [
+        coding::bench,
+        checking::bench,
+        deciding::bench,
+        changing::bench,
+        owned::bench,
+    ];
+    if !parts.into_iter().all(|bench| bench(&mut bars)) {
         println!("nothing is timed where the answers differ");
         return ExitCode::from(1);
     }
