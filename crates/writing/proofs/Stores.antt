@@ -55,17 +55,17 @@ four (suc (suc (suc zero))) h a b c d = absurd (d refl)
 four (suc (suc (suc (suc k)))) h a b c d = omega arith
 
 -- an IPv4 prefix that a writing takes
-pub taken-ipv4 : (w : Reading) (len a : ℕ) → prefixTaken w (V4 len a) ≡ true → len ≤ 32
+taken-ipv4 : (w : Reading) (len a : ℕ) → prefixTaken w (V4 len a) ≡ true → len ≤ 32
 taken-ipv4 Plain len a e = leb-true len 32 e
 taken-ipv4 Ipv4 len a e = leb-true len 32 (both (leb len 32) (clean 32 len 0 a) e .0)
 taken-ipv4 Ipv6 len a e = absurd (false≢true e)
 
-pub octets-ipv4 : (w : Reading) (len a : ℕ) → prefixOctets w (V4 len a) ≡ len ∷ frontOctets 32 len a
+octets-ipv4 : (w : Reading) (len a : ℕ) → prefixOctets w (V4 len a) ≡ len ∷ frontOctets 32 len a
 octets-ipv4 Plain len a = refl
 octets-ipv4 Ipv4 len a = refl
 octets-ipv4 Ipv6 len a = refl
 
-pub length-ipv4 : (w : Reading) (len a : ℕ) → length (prefixOctets w (V4 len a)) ≡ 1 + octetsOf len
+length-ipv4 : (w : Reading) (len a : ℕ) → length (prefixOctets w (V4 len a)) ≡ 1 + octetsOf len
 length-ipv4 w len a =
     let n = octets-ipv4 w len a in
     let e : length (prefixOctets w (V4 len a)) ≡ suc (length (frontOctets 32 len a)) = ap length n in
@@ -89,9 +89,20 @@ module _ (w : Reading) (l : Lent) (x : Piece) (t : ℕ) where
     unfolding pieceOctets
     prefix-long = ap (λ y. length (pieceOctets w l y)) is ∙ omega arith
 
-    pub prefix-put : (out : List ℕ) (at : ℕ) {r : List ℕ} → r ≡ sets (set out at t) (at + 1) (prefixOctets w p) → r ≡ sets out at (pieceOctets w l x)
+    pub prefix-put : (out : List ℕ) (at : ℕ) {r : List ℕ} → r ≡ sets out at (t ∷ prefixOctets w p) → r ≡ sets out at (pieceOctets w l x)
     unfolding pieceOctets
-    prefix-put out at f = first-then out at t (prefixOctets w p) f ∙ ap (λ y. sets out at (pieceOctets w l y)) (sym is)
+    prefix-put out at f = f ∙ ap (λ y. sets out at (pieceOctets w l y)) (sym is)
+
+  -- the same of an IPv4 prefix
+  module _ (len a : ℕ) (is : x ≡ Prefix t (V4 len a)) where
+    pub ipv4-taken : pieceTaken w l x ≡ true → len ≤ 32
+    ipv4-taken e = taken-ipv4 w len a (prefix-taken (V4 len a) is e)
+
+    pub ipv4-long : length (pieceOctets w l x) ≡ 2 + octetsOf len
+    ipv4-long = omega (arith, prefix-long (V4 len a) is, length-ipv4 w len a)
+
+    pub ipv4-put : (out : List ℕ) (at : ℕ) {r : List ℕ} → r ≡ sets (set out at t) (at + 1) (len ∷ frontOctets 32 len a) → r ≡ sets out at (pieceOctets w l x)
+    ipv4-put out at f = prefix-put (V4 len a) is out at (first-then out at t (len ∷ frontOctets 32 len a) f ∙ ap (λ xs. sets out at (t ∷ xs)) (sym (octets-ipv4 w len a)))
 
   module _ (start n : ℕ) (is : x ≡ Operators t start n) where
     pub list-inside : pieceTaken w l x ≡ true → insideOf l start n ≡ true

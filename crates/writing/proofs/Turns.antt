@@ -9,7 +9,6 @@ use lib.Seq.{sets, length-sets}
 use Rattle.ground.proofs.Cases.{both}
 use Rattle.ground.proofs.Overlays.{sets-append}
 use Rattle.choices.specs.declared.Reading.{Reading}
-use Rattle.stored.specs.declared.Piece.{Piece}
 use Rattle.stored.specs.Pieces.{pieceAt}
 use Rattle.stored.specs.Stored.{piecesFrom}
 use Rattle.measuring.specs.Bodies.{Lent, pieceOctets, bodyOctets}
@@ -74,25 +73,21 @@ module _ (w : Reading) (l : Lent) (ws : List ℕ) (n at : ℕ) (out₀ : List �
       left-long : length (leftOf w l ws n i) ≡ length (pieceOctets w l (pieceAt ws (4 * i))) + length (leftOf w l ws n (i + 1))
       left-long = ap length left-split ∙ length-append (pieceOctets w l (pieceAt ws (4 * i))) (leftOf w l ws n (i + 1))
 
-      module _ {x : Piece} (is : x ≡ pieceAt ws (4 * i)) where
-        pub next-taken : pieceTaken w l x ≡ true
-        next-taken = ap (pieceTaken w l) is ∙ all-split .0
+      pub next-taken : pieceTaken w l (pieceAt ws (4 * i)) ≡ true
+      next-taken = all-split .0
 
-        pub next-room : at + length (bodyOctets w l (piecesFrom n ws 0)) ≤ length out₀ → p + length (pieceOctets w l x) ≤ length out
-        next-room r =
-            let f : length (pieceOctets w l x) ≡ length (pieceOctets w l (pieceAt ws (4 * i))) = ap (λ y. length (pieceOctets w l y)) is in
-            let g : length (leftOf w l ws n 0) ≡ length (bodyOctets w l (piecesFrom n ws 0)) = ap length whole in
-            omega (arith, h .place, h .long, left-long, f, g)
+      pub next-room : at + length (bodyOctets w l (piecesFrom n ws 0)) ≤ length out₀ → p + length (pieceOctets w l (pieceAt ws (4 * i))) ≤ length out
+      next-room r =
+          let g : length (leftOf w l ws n 0) ≡ length (bodyOctets w l (piecesFrom n ws 0)) = ap length whole in
+          omega (arith, h .place, h .long, left-long, g)
 
-        pub stood-more : {out' : List ℕ} {p' : ℕ} → p' ≡ p + length (pieceOctets w l x) → out' ≡ sets out p (pieceOctets w l x) → Stood w l ws n at out₀ out' p' (i + 1)
-        stood-more {out'} {p'} f g =
-            let xs = pieceOctets w l (pieceAt ws (4 * i)) in
-            let k : out' ≡ sets out p xs = g ∙ ap (λ y. sets out p (pieceOctets w l y)) is in
-            let j : p' ≡ p + length xs = f ∙ ap (λ y. p + length (pieceOctets w l y)) is in
-            record {
-              within = omega arith;
-              long = ap length k ∙ length-sets out p xs ∙ h .long;
-              taken = all-split .1;
-              place = omega (arith, h .place, left-long, j);
-              stored = rw (k, j, ← sets-append out p xs (leftOf w l ws n (i + 1)), ← left-split) (h .stored);
-            }
+      pub stood-more : {out' : List ℕ} {p' : ℕ} → p' ≡ p + length (pieceOctets w l (pieceAt ws (4 * i))) → out' ≡ sets out p (pieceOctets w l (pieceAt ws (4 * i))) → Stood w l ws n at out₀ out' p' (i + 1)
+      stood-more {out'} {p'} j k =
+          let xs = pieceOctets w l (pieceAt ws (4 * i)) in
+          record {
+            within = omega arith;
+            long = ap length k ∙ length-sets out p xs ∙ h .long;
+            taken = all-split .1;
+            place = omega (arith, h .place, left-long, j);
+            stored = rw (k, j, ← sets-append out p xs (leftOf w l ws n (i + 1)), ← left-split) (h .stored);
+          }

@@ -15,6 +15,7 @@ ghost use Rattle.octets.specs.Lengths.{lengthOctets};
 ghost use Rattle.operators.specs.Ops.{kindOf, listOctets};
 ghost use Rattle.prefixes.specs.Prefixes.{octetsOf};
 ghost use Rattle.prefixwriting.specs.Writings.{frontOctets};
+ghost use Rattle.stored.specs.Pieces.{pieceAt};
 ghost use Rattle.stored.specs.Stored.{piecesFrom};
 ghost use Rattle.listwriting.specs.Lists.{sizeIn};
 ghost use Rattle.measuring.specs.Bodies.{lent, opsOf, prefixOctets, pieceOctets, bodyOctets};
@@ -72,15 +73,17 @@ fn put_other(writing: Reading, prefix: NetworkPrefix, out: &mut [u8], at: usize)
     }
 }
 
-fn put_prefix(writing: Reading, prefix: NetworkPrefix, out: &mut [u8], at: usize)
+// A type and a prefix that was weighed, and the place after it.
+fn put_prefix(writing: Reading, tag: u8, prefix: NetworkPrefix, out: &mut [u8], at: usize) -> usize
     requires taken { ⌜ prefixTaken writing prefix ≡ true ⌝ }
-    requires room { ⌜ at + length (prefixOctets writing prefix) ≤ length (now out) ⌝ }
-    ensures { λ _. ⌜ now (out .exit) ≡ sets (now (out .entry)) at (prefixOctets writing prefix) ⌝ }
+    requires room { ⌜ at + 1 + length (prefixOctets writing prefix) ≤ length (now out) ⌝ }
+    ensures next { λ r. ⌜ r ≡ at + 1 + length (prefixOctets writing prefix) ⌝ }
+    ensures octets { λ _. ⌜ now (out .exit) ≡ sets (now (out .entry)) at (tag ∷ prefixOctets writing prefix) ⌝ }
 {
-    match prefix {
-        NetworkPrefix::Ipv4 { length, address } => put_ipv4(length, address, out, at),
-        _ => put_other(writing, prefix, out, at),
-    }
+    out[at] = tag;
+    let from = at + 1;
+    put_other(writing, prefix, out, from);
+    from + measuring::prefix_size(writing, prefix)
 }
 
 // A list that lies within the lent lists, and the place after it.
@@ -106,34 +109,37 @@ fn put_operators(
     listwriting::put_list(list, values, octets, first + start, count, out, at)
 }
 
-// A piece that was weighed, and the place after it.
-fn put_piece(
+// The component at a word, which was weighed, and the place after it. A list and an IPv4 prefix go straight: most components are one of them.
+fn put_at(
     writing: Reading,
+    words: &[u64],
+    word: usize,
     values: &[u64],
     octets: &[u8],
     first: usize,
-    piece: Piece,
     out: &mut [u8],
     at: usize,
 ) -> usize
-    requires taken { ⌜ pieceTaken writing (lent (now values) (now octets) first) piece ≡ true ⌝ }
-    requires room { ⌜ at + length (pieceOctets writing (lent (now values) (now octets) first) piece) ≤ length (now out) ⌝ }
-    ensures next { λ r. ⌜ r ≡ at + length (pieceOctets writing (lent (now (values .entry)) (now (octets .entry)) first) piece) ⌝ }
-    ensures octets { λ _. ⌜ now (out .exit) ≡ sets (now (out .entry)) at (pieceOctets writing (lent (now (values .entry)) (now (octets .entry)) first) piece) ⌝ }
+    requires words { ⌜ word + 4 ≤ length (now words) ⌝ }
+    requires taken { ⌜ pieceTaken writing (lent (now values) (now octets) first) (pieceAt (now words) word) ≡ true ⌝ }
+    requires room { ⌜ at + length (pieceOctets writing (lent (now values) (now octets) first) (pieceAt (now words) word)) ≤ length (now out) ⌝ }
+    ensures next { λ r. ⌜ r ≡ at + length (pieceOctets writing (lent (now (values .entry)) (now (octets .entry)) first) (pieceAt (now (words .entry)) word)) ⌝ }
+    ensures octets { λ _. ⌜ now (out .exit) ≡ sets (now (out .entry)) at (pieceOctets writing (lent (now (values .entry)) (now (octets .entry)) first) (pieceAt (now (words .entry)) word)) ⌝ }
 {
+    let v = stored::view_at(words, word);
+    if v.form == 1 {
+        out[at] = v.tag;
+        return put_operators(v.tag, values, octets, first, v.start, v.count, out, at + 1);
+    }
+    if v.form == 2 {
+        out[at] = v.tag;
+        put_ipv4(v.length, v.address, out, at + 1);
+        return at + 2 + prefixes::octets_of(v.length);
+    }
+    let piece = stored::piece_at(words, word);
     match piece {
-        Piece::Prefix { tag, prefix } => {
-            out[at] = tag;
-            let from = at + 1;
-            put_prefix(writing, prefix, out, from);
-            from + measuring::prefix_size(writing, prefix)
-        }
-        Piece::Operators { tag, start, count } => {
-            out[at] = tag;
-            let from = at + 1;
-            put_operators(tag, values, octets, first, start, count, out, from)
-        }
-        Piece::NoRecord => at,
+        Piece::Prefix { tag, prefix } => put_prefix(writing, tag, prefix, out, at),
+        _ => at,
     }
 }
 
@@ -156,8 +162,7 @@ fn put_body(
     let mut p = at;
     let mut i = 0;
     while i < count {
-        let piece = stored::piece_at(words, 4 * i);
-        p = put_piece(writing, values, octets, first, piece, out, p);
+        p = put_at(writing, words, 4 * i, values, octets, first, out, p);
         i += 1;
     }
 }

@@ -8,8 +8,7 @@ use Rattle.writing.proofs.put_body.Statement.{statement}
 use Rattle.writing.proofs.put_body.Tie as tie
 use Rattle.writing.proofs.put_body.Reads as reads
 use Rattle.writing.proofs.put_body.Lts as lts
-use Rattle.writing.proofs.put_piece.Reads as put-piece-reads
-use Rattle.stored.proofs.piece_at.Reads as piece-at-reads
+use Rattle.writing.proofs.put_at.Reads as put-at-reads
 
 abbrev Inv-loop : tie.InvT-loop
 Inv-loop writing words count first values octets out₀ at p₀ i₀ out p i = Stood writing (lent values octets first) words count at out₀ out p i
@@ -22,25 +21,20 @@ loop-holds c =
     let s = c .before .before .before .before in
     stood-first _ _ _ _ _ _ (s .pre .1 .0)
 
-mul-piece-at : tie.Need-mul-piece-at Inv-loop μ-loop
-mul-piece-at c = omega (arith, c .before .before .before .before .before .before .pre .0)
+mul-put-at : tie.Need-mul-put-at Inv-loop μ-loop
+mul-put-at c = omega (arith, c .before .before .before .before .before .before .pre .0)
 
-piece-at-requires : tie.Need-piece-at-requires Inv-loop μ-loop
-piece-at-requires c κs = omega (arith, c .before .before .before .before .before .before .pre .0)
-
-put-piece-requires : tie.Need-put-piece-requires Inv-loop μ-loop
-put-piece-requires c κs =
-    let b = c .before in
-    let o = b .before .before in
+put-at-requires : tie.Need-put-at-requires Inv-loop μ-loop
+put-at-requires c κs =
+    let o = c .before .before in
     let s = o .before .before .before .before .before in
-    (next-taken _ _ _ _ _ _ (o .loop .inv) (omega arith) (b .piece-at .ensures), next-room _ _ _ _ _ _ (o .loop .inv) (omega arith) (b .piece-at .ensures) (s .pre .1 .1))
+    (omega (arith, s .pre .0), (next-taken _ _ _ _ _ _ (o .loop .inv) (omega arith), next-room _ _ _ _ _ _ (o .loop .inv) (omega arith) (s .pre .1 .1)))
 
 loop-again : tie.Need-loop-again Inv-loop μ-loop
 loop-again c =
     let h = c .before .before in
-    let b = h .before .before in
-    let o = b .before .before in
-    stood-more _ _ _ _ _ _ (o .loop .inv) (omega arith) (b .piece-at .ensures) (h .put-piece .ensures .0) (h .put-piece .ensures .1)
+    let o = h .before .before .before in
+    stood-more _ _ _ _ _ _ (o .loop .inv) (omega arith) (h .put-at .ensures .0) (h .put-at .ensures .1)
 
 same-length : tie.Need-same-length Inv-loop μ-loop
 same-length c = c .before .loop .inv .long
@@ -55,9 +49,8 @@ put-body-spec =
     Inv-loop
     μ-loop
     loop-holds
-    mul-piece-at
-    piece-at-requires
-    put-piece-requires
+    mul-put-at
+    put-at-requires
     (λ c. search needs)
     (λ c. search needs)
     loop-again
