@@ -4,12 +4,12 @@ use mathlib.Core.Path.{_≡_, refl, sym, ap, ap₂, _∙_}
 use mathlib.Core.Bool.{Bool, true, false, _&&_}
 use mathlib.Core.List.{List, [], _∷_}
 use native.Mathlib.Omega.{arith}
-use borrow.Author.Tests.{lt-leb, le-leb, lt-ltb, le-ltb, leb-true, leb-false}
+use borrow.Author.Tests.{lt-leb, le-leb, lt-ltb, le-ltb, leb-false}
 use lib.Dec.{leb, ltb}
 use lib.ListN.{length, length-append}
 use Rattle.ground.specs.Answers.{Answer, accepts, refuses}
 use Rattle.ground.specs.Picks.{pick}
-use Rattle.ground.proofs.Cases.{by-test, both}
+use Rattle.ground.proofs.Cases.{by-test}
 use Rattle.choices.specs.declared.Reading.{Reading}
 use Rattle.stored.specs.declared.Piece.{Piece}
 use Rattle.stored.specs.Pieces.{typeOf, pieceAt}
@@ -18,7 +18,7 @@ use Rattle.measuring.specs.Bodies.{Lent, pieceOctets, bodyOctets}
 use Rattle.measuring.specs.Grounds.{operatorsIn, allOperators, pieceTaken, allTaken, risesIn, inOrder, takenAfter, bodyTaken, bodyOf, counted}
 use Rattle.measuring.specs.Weights.{fitsAfter, weightOf}
 use Rattle.measuring.proofs.Tests.{and-false, leb-rest}
-use Rattle.measuring.proofs.Weights.{weight-zero, weight-some}
+use Rattle.measuring.proofs.Weights.{fits-shows, weight-zero, weight-some}
 
 -- one piece, and the others after it
 module _ (w : Reading) (l : Lent) (left previous : ℕ) (p : Piece) (ps : List Piece) where
@@ -34,25 +34,12 @@ module _ (w : Reading) (l : Lent) (left previous : ℕ) (p : Piece) (ps : List P
       (λ a. ap (λ x. x && ((pieceTaken w l p && allTaken w l ps) && (risesIn w previous (typeOf p) && inOrder w (typeOf p) ps)))
       (lt-leb (operatorsIn p + allOperators ps) left (omega (arith, leb-false (operatorsIn p) left a))))
 
-  module _ (e : fitsAfter w l left previous p ≡ true) where
-    parts : (leb (operatorsIn p) left ≡ true) × (pieceTaken w l p && risesIn w previous (typeOf p) ≡ true)
-    unfolding fitsAfter
-    parts = both (leb (operatorsIn p) left) (pieceTaken w l p && risesIn w previous (typeOf p)) e
-
-    few : operatorsIn p ≤ left
-    few = leb-true (operatorsIn p) left (parts .0)
-
-    taken : pieceTaken w l p ≡ true
-    taken = both (pieceTaken w l p) (risesIn w previous (typeOf p)) (parts .1) .0
-
-    rises : risesIn w previous (typeOf p) ≡ true
-    rises = both (pieceTaken w l p) (risesIn w previous (typeOf p)) (parts .1) .1
-
-    pub after-more : takenAfter w l left previous (p ∷ ps) ≡ takenAfter w l (left - operatorsIn p) (typeOf p) ps
-    unfolding takenAfter allTaken inOrder allOperators
-    after-more =
-        ap₂ (λ x y. x && ((y && allTaken w l ps) && (risesIn w previous (typeOf p) && inOrder w (typeOf p) ps))) (leb-rest (operatorsIn p) (allOperators ps) left few) taken
-        ∙ ap (λ x. leb (allOperators ps) (left - operatorsIn p) && (allTaken w l ps && (x && inOrder w (typeOf p) ps))) rises
+  pub after-more : fitsAfter w l left previous p ≡ true → takenAfter w l left previous (p ∷ ps) ≡ takenAfter w l (left - operatorsIn p) (typeOf p) ps
+  unfolding takenAfter allTaken inOrder allOperators
+  after-more e =
+      let f = fits-shows w l left previous p e in
+      ap₂ (λ x y. x && ((y && allTaken w l ps) && (risesIn w previous (typeOf p) && inOrder w (typeOf p) ps))) (leb-rest (operatorsIn p) (allOperators ps) left (f .0)) (f .1)
+      ∙ ap (λ x. leb (allOperators ps) (left - operatorsIn p) && (allTaken w l ps && (x && inOrder w (typeOf p) ps))) (f .2)
 
 -- ---- what is left of the words
 

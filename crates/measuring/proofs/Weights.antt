@@ -68,7 +68,7 @@ pub length-operators : (w : Reading) (l : Lent) (t start n : ℕ) → length (pi
 unfolding pieceOctets
 length-operators w l t start n = omega (arith, length-list (kindOf t) (l .values) (l .octets) (l .first + start) n)
 
-pub piece-most : (w : Reading) (l : Lent) (p : Piece) → pieceTaken w l p ≡ true → length (pieceOctets w l p) ≤ 19 + 9 * operatorsIn p
+piece-most : (w : Reading) (l : Lent) (p : Piece) → pieceTaken w l p ≡ true → length (pieceOctets w l p) ≤ 19 + 9 * operatorsIn p
 unfolding pieceOctets pieceTaken
 piece-most w l (Prefix t p) e = omega (arith, prefix-most w p e)
 piece-most w l (Operators t start n) e = omega (arith, length-list (kindOf t) (l .values) (l .octets) (l .first + start) n, size-most (l .octets) (l .first + start) n)
@@ -84,11 +84,12 @@ piece-least w l (Operators t start n) e = omega arith
 piece-least w l NoRecord e = absurd (false≢true e)
 
 module _ (w : Reading) (l : Lent) (left previous : ℕ) (p : Piece) where
-  parts : fitsAfter w l left previous p ≡ true → (operatorsIn p ≤ left) × (pieceTaken w l p ≡ true)
+  pub fits-shows : fitsAfter w l left previous p ≡ true → (operatorsIn p ≤ left) × (pieceTaken w l p ≡ true) × (risesIn w previous (typeOf p) ≡ true)
   unfolding fitsAfter
-  parts e =
+  fits-shows e =
       let a = both (leb (operatorsIn p) left) (pieceTaken w l p && risesIn w previous (typeOf p)) e in
-      (leb-true (operatorsIn p) left (a .0), both (pieceTaken w l p) (risesIn w previous (typeOf p)) (a .1) .0)
+      let b = both (pieceTaken w l p) (risesIn w previous (typeOf p)) (a .1) in
+      (leb-true (operatorsIn p) left (a .0), b .0, b .1)
 
   weight-is : fitsAfter w l left previous p ≡ true → weightOf w l left previous p ≡ length (pieceOctets w l p)
   unfolding weightOf
@@ -102,7 +103,7 @@ module _ (w : Reading) (l : Lent) (left previous : ℕ) (p : Piece) where
   pub weight-zero : weightOf w l left previous p ≡ 0 → fitsAfter w l left previous p ≡ false
   weight-zero z =
       by-test (fitsAfter w l left previous p)
-      (λ e. absurd (omega (arith, weight-is e, piece-least w l p (parts e .1))))
+      (λ e. absurd (omega (arith, weight-is e, piece-least w l p (fits-shows e .1))))
       (λ e. e)
 
   -- and any other that none did
@@ -117,10 +118,10 @@ module _ (w : Reading) (l : Lent) (left previous : ℕ) (p : Piece) where
     weight-taken = parts fits .1
 
     pub weight-few : operatorsIn p ≤ left
-    weight-few = parts fits .0
+    weight-few = fits-shows fits .0
 
     pub weight-most : weightOf w l left previous p ≤ 19 + 9 * operatorsIn p
-    weight-most = omega (arith, weight-is fits, piece-most w l p (parts fits .1))
+    weight-most = omega (arith, weight-is fits, piece-most w l p (fits-shows fits .1))
 
 -- ---- a piece by its form
 

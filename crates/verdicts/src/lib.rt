@@ -379,8 +379,8 @@ fn judge_in(
 }
 
 // Whether the 64 words from a word on are a rule that the standard writing in its own family takes, and, if it is asked, whether the packet
-// satisfies it. Words that are not there are none. A family that is no octet may be cut to one, since words with such a family are no rule. No entry
-// point.
+// satisfies it. Words that are not there are none. A family that is no octet may be cut to one, since words with such a family are no rule.
+// No entry point.
 pub fn judge(
     words: &[u64],
     at: usize,

@@ -109,7 +109,7 @@ fn put_operators(
     listwriting::put_list(list, values, octets, first + start, count, out, at)
 }
 
-// The component at a word, which was weighed, and the place after it. A list and an IPv4 prefix go straight: most components are one.
+// The component at a word, which was weighed, and the place after it. A list and an IPv4 prefix go straight: most components are one of them.
 fn put_at(
     writing: Reading,
     words: &[u64],
