@@ -115,7 +115,7 @@ module _ (w : Reading) (l : Lent) (left previous : ℕ) (p : Piece) where
     weight-some = (fits, weight-is fits)
 
     pub weight-taken : pieceTaken w l p ≡ true
-    weight-taken = parts fits .1
+    weight-taken = fits-shows fits .1
 
     pub weight-few : operatorsIn p ≤ left
     weight-few = fits-shows fits .0
