@@ -83,8 +83,8 @@ fn measure_run(s: &[u8], at: usize, n: usize, code: u8, w: usize, bound: u8) -> 
 }
 
 // Whether the operator at a place is whole, has a value of one octet, bears the end mark and has no bit that some reading reserves: nearly every list
-// of one operator, whatever the reading.
-fn alone(s: &[u8], at: usize) -> bool
+// of one operator, whatever the reading. No entry point.
+pub fn alone(s: &[u8], at: usize) -> bool
     requires { ⌜ at < length (now s) ⌝ }
     ensures { λ r. ⌜ r ≡ aloneAt (now (s .entry)) at ⌝ }
 {

@@ -17,7 +17,8 @@ use Rattle.stored.proofs.Words.{rule-whole}
 use Rattle.lists.specs.Runs.{Places}
 use Rattle.walk.specs.Walks.{FoundAt, componentAt, Body, body, joined, walkAt}
 use Rattle.walk.proofs.Components.{Here, here}
-use Rattle.walk.proofs.Turns.{rest, rest-first, rest-end, rest-refused, rest-part}
+use Rattle.walk.specs.Turns.{rest}
+use Rattle.walk.proofs.Turns.{rest-first, rest-end, rest-refused, rest-part}
 use Rattle.reading.specs.Parts.{isFound, foundIn, isBody, bodyIn, typedHere, Standing, foundHere, bodyAt}
 use Rattle.reading.proofs.Components.{false-true}
 

@@ -15,7 +15,8 @@ use Rattle.stored.specs.Pieces.{typeOf}
 use Rattle.walk.specs.Walks.{foundAt, componentAt, Body, body, joined, walkAt}
 use Rattle.walk.proofs.Components.{here}
 use Rattle.walk.proofs.Chains.{Chain, none, more}
-use Rattle.walk.proofs.Turns.{rest, rest-first, rest-end, rest-part}
+use Rattle.walk.specs.Turns.{rest}
+use Rattle.walk.proofs.Turns.{rest-first, rest-end, rest-part}
 use Rattle.measuring.specs.Bodies.{Lent, pieceOctets, bodyOctets}
 use Rattle.measuring.specs.Grounds.{operatorsIn, pieceTaken, allTaken, risesIn, inOrder}
 use Rattle.measuring.proofs.Laws.{Standard, body-none, body-more, all-more, order-more}

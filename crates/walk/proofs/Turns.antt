@@ -1,19 +1,21 @@
 -- The turns of a walk: what is left of it at a place, `rest`, goes by what is found there. What bounds the recursion is a constant less
 -- the components that are passed; an invariant holds their number, which is at most the last type.
 use Prim.Native.Nat.{ℕ, suc, _+_, _-_, _≤_, _<_}
-use mathlib.Core.Path.{_≡_, refl, sym, _∙_, ap, ap₂}
+use mathlib.Core.Path.{_≡_, refl, sym, _∙_, ap, ap₂, subst}
+use mathlib.Core.Bool.{true}
 use mathlib.Core.List.{List, []}
 use native.Mathlib.Omega.{arith}
 use borrow.Author.Tests.{le-leb, lt-leb}
 use lib.ListN.{length, getD, length-append}
 use Rattle.ground.specs.Answers.{Answer, accepts, refuses, declines}
 use Rattle.choices.specs.declared.Reading.{Reading}
+use Rattle.choices.specs.Choices.{lastType}
+use Rattle.lists.specs.Runs.{aloneAt}
+use Rattle.lists.proofs.Runs.{alone-done}
 use Rattle.walk.specs.Walks.{FoundAt, componentAt, Body, body, joined, turn, walkFrom, walkAt, sight, seen, counted}
+use Rattle.walk.specs.Turns.{rest, countedOn, Walking}
+use Rattle.walk.proofs.Ways.{list-seen}
 use Rattle.walk.proofs.Components.{Here, here, Sighted, sighted, unseen}
-
--- what is left of a walk at a place, after j components
-unfoldable pub rest : Reading → List ℕ → ℕ → ℕ → ℕ → ℕ → ℕ → Answer Body
-rest r s stop at previous start j = walkFrom (14 - j) r s stop at previous start
 
 pub rest-first : (r : Reading) (s : List ℕ) (stop : ℕ) → walkAt r s stop ≡ rest r s stop 0 0 0 0
 unfolding walkAt rest
@@ -37,11 +39,6 @@ module _ (r : Reading) (s : List ℕ) (stop at previous start j : ℕ) (few : j 
     unfolding rest
     rest-part e = step-of ∙ rw e
 
--- the operators of a walk of which n are passed
-abbrev pub countedOn : ℕ → Answer Body → Answer ℕ
-countedOn n (accepts b) = accepts (n + length (b .operators))
-countedOn n (declines f) = declines f
-
 counted-first : (a : Answer Body) → counted a ≡ countedOn 0 a
 counted-first (accepts b) = ap (λ (x : ℕ). accepts x) (omega arith)
 counted-first (declines f) = refl
@@ -50,14 +47,7 @@ counted-more : (n : ℕ) (p : FoundAt) (a : Answer Body) → countedOn n (joined
 counted-more n p (accepts b) = ap (λ (x : ℕ). accepts x) (simp length-append (omega arith))
 counted-more n p (declines f) = refl
 
--- where the first walk stands: its invariant
-pub record Walking (r : Reading) (s : List ℕ) (stop at previous operators : ℕ) : Type 0 where
-  pub components : ℕ
-  pub few : components ≤ previous
-  pub known : previous ≤ 13
-  pub place : operators ≤ at
-  pub same : counted (walkAt r s stop) ≡ countedOn operators (rest r s stop at previous operators components)
-
+-- where the first walk stands
 pub walking-first : (r : Reading) (s : List ℕ) (stop : ℕ) → Walking r s stop 0 0 0
 walking-first r s stop =
     record {
@@ -65,6 +55,7 @@ walking-first r s stop =
       few = omega arith;
       known = omega arith;
       place = omega arith;
+      within = omega arith;
       same = counted-first (walkAt r s stop) ∙ ap (countedOn 0) (rest-first r s stop);
     }
 
@@ -107,8 +98,17 @@ module _ {r : Reading} {s : List ℕ} {stop at previous operators : ℕ} (w : Wa
             few = omega (arith, w .few);
             known = b .1 .1 .0;
             place = omega (arith, w .place);
+            within = b .1 .1 .1 .1;
             same =
                 w .same ∙ ap (countedOn operators) q
                 ∙ counted-more operators (f .what) (rest r s stop (f .what .next) (getD s at 0) (operators + length (f .what .operators)) (w .components + 1))
                 ∙ ap₂ (λ (x y : ℕ). countedOn (operators + x) (rest r s stop y (getD s at 0) (operators + x) (w .components + 1))) (f .count) (f .next);
           }
+
+-- a list of one operator that stands alone
+pub walking-lone : {r : Reading} {s : List ℕ} {stop at previous operators : ℕ} → Walking r s stop at previous operators → at < stop → at < length s → previous < getD s at 0
+    → 2 < getD s at 0 → getD s at 0 ≤ lastType r → aloneAt s (at + 1) ≡ true → Walking r s stop (at + 3) (getD s at 0) (operators + 1)
+walking-lone {r} {s} {stop} {at} {previous} {operators} w h l k m t e =
+    let n : at + 1 + 2 ≡ at + 3 = omega arith in
+    subst (λ (x : ℕ). Walking r s stop x (getD s at 0) (operators + 1)) n
+    (walking-more w h (list-seen r s at previous operators l k t m (sym (alone-done r (getD s at 0) s (at + 1) e))))

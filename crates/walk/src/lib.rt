@@ -1,7 +1,8 @@
 // The component walk: one component at a cursor, then all of them, by each of the three readings. Nothing is written: a walk answers how
 // many operators there are, or its first fault. In the Rust it is nlri.rs, parse_component and the loop that calls it.
 ghost use mathlib.Core.Path.{_≡_};
-ghost use Prim.Native.Nat.{ℕ};
+ghost use Prim.Native.Nat.{ℕ, _≤_};
+ghost use Rattle.walk.specs.Turns.{Walking};
 ghost use Rattle.walk.specs.Walks.{componentAt, seen, toldFound, walkAt, counted, toldWalk};
 use choices::Reading;
 use lists::Listed;
@@ -68,28 +69,104 @@ pub fn component_at(reading: Reading, s: &[u8], c: Cursor, previous: u8) -> Foun
     }
 }
 
+// How far components are passed: the place after them, the last type, and the operators so far.
+pub struct Passed {
+    pub at: usize,
+    pub previous: u8,
+    pub operators: usize,
+}
+
+// On over components that are one operator which stands alone: in most rules all but the prefixes are.
+fn pass_lone(
+    reading: Reading,
+    s: &[u8],
+    stop: usize,
+    at: usize,
+    previous: u8,
+    operators: usize,
+) -> Passed
+    requires { ⌜ Walking reading (now s) stop at previous operators ⌝ }
+    ensures walking { λ r. ⌜ Walking reading (now (s .entry)) stop (r .at) (r .previous) (r .operators) ⌝ }
+    ensures rises { λ r. ⌜ previous ≤ r .previous ⌝ }
+{
+    let mut i = at;
+    let mut tag = previous;
+    let mut n = operators;
+    loop {
+        if stop <= i {
+            return Passed {
+                at: i,
+                previous: tag,
+                operators: n,
+            };
+        }
+        if s.len() - i < 3 {
+            return Passed {
+                at: i,
+                previous: tag,
+                operators: n,
+            };
+        }
+        let found = s[i];
+        if found <= tag {
+            return Passed {
+                at: i,
+                previous: tag,
+                operators: n,
+            };
+        }
+        if found < 3 {
+            return Passed {
+                at: i,
+                previous: tag,
+                operators: n,
+            };
+        }
+        if choices::last_type(reading) < found {
+            return Passed {
+                at: i,
+                previous: tag,
+                operators: n,
+            };
+        }
+        if !lists::alone(s, i + 1) {
+            return Passed {
+                at: i,
+                previous: tag,
+                operators: n,
+            };
+        }
+        tag = found;
+        n += 1;
+        i += 3;
+    }
+}
+
 // The components of a body: they start before `stop`, and a last one may go on past it where the octets do.
 pub fn walk(reading: Reading, s: &[u8], stop: usize) -> Walked
     ensures { λ r. ⌜ toldWalk r ≡ counted (walkAt reading (now (s .entry)) stop) ⌝ }
 {
-    let mut c = Cursor { at: 0 };
+    let mut at: usize = 0;
     let mut previous: u8 = 0;
     let mut operators: usize = 0;
     loop {
-        let at = c.at;
+        let p = pass_lone(reading, s, stop, at, previous, operators);
+        at = p.at;
+        previous = p.previous;
+        operators = p.operators;
         if stop <= at {
             return Walked::Accepted {
                 operators: operators,
             };
         }
-        match component_at(reading, s, c, previous) {
+        match component_at(reading, s, Cursor { at: at }, previous) {
             Found::Component {
                 operators: more,
                 next,
             } => {
                 previous = s[at];
                 operators += more;
-                c = next;
+                at = next.at;
             }
             Found::Refused(fault) => {
                 return Walked::Refused(fault);
