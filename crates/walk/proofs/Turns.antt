@@ -9,12 +9,15 @@ use borrow.Author.Tests.{le-leb, lt-leb}
 use lib.ListN.{length, getD, length-append}
 use Rattle.ground.specs.Answers.{Answer, accepts, refuses, declines}
 use Rattle.choices.specs.declared.Reading.{Reading}
+use Rattle.choices.specs.declared.Reading.the-variants.{Plain, Ipv4, Ipv6}
 use Rattle.choices.specs.Choices.{lastType}
 use Rattle.lists.specs.Runs.{aloneAt}
 use Rattle.lists.proofs.Runs.{alone-done}
 use Rattle.walk.specs.Walks.{FoundAt, componentAt, Body, body, joined, turn, walkFrom, walkAt, sight, seen, counted}
-use Rattle.walk.specs.Turns.{rest, countedOn, Walking}
-use Rattle.walk.proofs.Ways.{list-seen}
+use Rattle.walk.specs.Turns.{rest, countedOn, Walking, Prefixed}
+use Rattle.prefixes.specs.Prefixes.{octetsOf, namedAt}
+use Rattle.prefixes.proofs.Laws.{taken-extent}
+use Rattle.walk.proofs.Ways.{prefix-seen, list-seen}
 use Rattle.walk.proofs.Components.{Here, here, Sighted, sighted, unseen}
 
 pub rest-first : (r : Reading) (s : List ℕ) (stop : ℕ) → walkAt r s stop ≡ rest r s stop 0 0 0 0
@@ -112,3 +115,26 @@ walking-lone {r} {s} {stop} {at} {previous} {operators} w h l k m t e =
     let n : at + 1 + 2 ≡ at + 3 = omega arith in
     subst (λ (x : ℕ). Walking r s stop x (getD s at 0) (operators + 1)) n
     (walking-more w h (list-seen r s at previous operators l k t m (sym (alone-done r (getD s at 0) s (at + 1) e))))
+
+-- a prefix that takes so many octets
+least : (r : Reading) → 12 ≤ lastType r
+least Plain = omega arith
+least Ipv4 = omega arith
+least Ipv6 = omega arith
+
+pub walking-prefix : (n : ℕ) {r : Reading} {s : List ℕ} {stop at previous operators : ℕ} → Walking r s stop at previous operators → at < stop → at < length s → previous < getD s at 0
+    → getD s at 0 ≤ 2 → Prefixed r s (at + 1) n → Walking r s stop (at + 1 + n) (getD s at 0) operators
+walking-prefix n {r} {s} {stop} {at} {previous} {operators} w h l k m e =
+    let o : operators + 0 ≡ operators = omega arith in
+    subst (λ (x : ℕ). Walking r s stop x (getD s at 0) operators) (e .1)
+    (subst (λ (x : ℕ). Walking r s stop (namedAt r s (at + 1) .next .at) (getD s at 0) x) o
+    (walking-more w h (prefix-seen r s at previous operators l k (omega (arith, least r)) m (sym (e .0)))))
+
+-- one of up to 32 bits, in the readings that have no offset
+module _ (s : List ℕ) (at n : ℕ) (h : getD s at 0 ≤ 32) (k : n ≡ 1 + octetsOf (getD s at 0)) (l : at + n ≤ length s) where
+  pub plain-short : Prefixed Plain s at n
+  plain-short =
+      (taken-extent Plain s at (record { head = omega arith; range = le-leb (getD s at 0) 128 (omega arith); within = omega arith }), omega arith)
+
+  pub ipv4-short : Prefixed Ipv4 s at n
+  ipv4-short = (taken-extent Ipv4 s at (record { head = omega arith; range = le-leb (getD s at 0) 32 h; within = omega arith }), omega arith)

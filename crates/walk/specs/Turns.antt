@@ -5,6 +5,7 @@ use mathlib.Core.List.{List}
 use lib.ListN.{length}
 use Rattle.ground.specs.Answers.{Answer, accepts, declines}
 use Rattle.choices.specs.declared.Reading.{Reading}
+use Rattle.prefixes.specs.Prefixes.{namedAt, extentAt}
 use Rattle.walk.specs.Walks.{Body, walkFrom, walkAt, counted}
 
 -- what is left of a walk at a place, after j components
@@ -24,3 +25,7 @@ pub record Walking (r : Reading) (s : List ℕ) (stop at previous operators : �
   pub place : operators ≤ at
   pub within : at ≤ length s
   pub same : counted (walkAt r s stop) ≡ countedOn operators (rest r s stop at previous operators components)
+
+-- the prefix at a place takes so many octets
+abbrev pub Prefixed : Reading → List ℕ → ℕ → ℕ → Type 0
+Prefixed r s at n = (extentAt r s at ≡ accepts (namedAt r s at)) × (namedAt r s at .next .at ≡ at + n)

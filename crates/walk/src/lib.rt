@@ -1,8 +1,10 @@
 // The component walk: one component at a cursor, then all of them, by each of the three readings. Nothing is written: a walk answers how
 // many operators there are, or its first fault. In the Rust it is nlri.rs, parse_component and the loop that calls it.
 ghost use mathlib.Core.Path.{_≡_};
-ghost use Prim.Native.Nat.{ℕ, _≤_};
-ghost use Rattle.walk.specs.Turns.{Walking};
+ghost use Prim.Native.Nat.{ℕ, _+_, _≤_, _<_};
+ghost use lib.ListN.{length, getD};
+ghost use Rattle.prefixes.specs.Prefixes.{octetsOf};
+ghost use Rattle.walk.specs.Turns.{Walking, Prefixed};
 ghost use Rattle.walk.specs.Walks.{componentAt, seen, toldFound, walkAt, counted, toldWalk};
 use choices::Reading;
 use lists::Listed;
@@ -76,8 +78,36 @@ pub struct Passed {
     pub operators: usize,
 }
 
-// On over components that are one operator which stands alone: in most rules all but the prefixes are.
-fn pass_lone(
+// How many octets a prefix of up to 32 bits takes with its length octet; 0 where it is longer, or not all there.
+fn short_octets(s: &[u8], at: usize) -> usize
+    requires { ⌜ at < length (now s) ⌝ }
+    ensures { λ r. ⌜ ((r ≡ 0 → ⊥) → (getD (now (s .entry)) at 0 ≤ 32) × ((r ≡ 1 + octetsOf (getD (now (s .entry)) at 0)) × (at + r ≤ length (now (s .entry))))) ⌝ }
+{
+    let len = s[at];
+    if 32 < len {
+        return 0;
+    }
+    let k = prefixes::octets_of(len);
+    if s.len() - at <= k {
+        return 0;
+    }
+    1 + k
+}
+
+// The same where the reading has prefixes without an offset.
+fn short_prefix(reading: Reading, s: &[u8], at: usize) -> usize
+    requires { ⌜ at < length (now s) ⌝ }
+    ensures { λ r. ⌜ ((r ≡ 0 → ⊥) → Prefixed reading (now (s .entry)) at r) ⌝ }
+{
+    match reading {
+        Reading::Plain => short_octets(s, at),
+        Reading::Ipv4 => short_octets(s, at),
+        Reading::Ipv6 => 0,
+    }
+}
+
+// On over the common components: a prefix of up to 32 bits, and a list of one operator which stands alone. Most rules have no other.
+fn pass_common(
     reading: Reading,
     s: &[u8],
     stop: usize,
@@ -116,29 +146,35 @@ fn pass_lone(
             };
         }
         if found < 3 {
-            return Passed {
-                at: i,
-                previous: tag,
-                operators: n,
-            };
+            let k = short_prefix(reading, s, i + 1);
+            if k == 0 {
+                return Passed {
+                    at: i,
+                    previous: tag,
+                    operators: n,
+                };
+            }
+            tag = found;
+            i = i + 1 + k;
+        } else {
+            if choices::last_type(reading) < found {
+                return Passed {
+                    at: i,
+                    previous: tag,
+                    operators: n,
+                };
+            }
+            if !lists::alone(s, i + 1) {
+                return Passed {
+                    at: i,
+                    previous: tag,
+                    operators: n,
+                };
+            }
+            tag = found;
+            n += 1;
+            i += 3;
         }
-        if choices::last_type(reading) < found {
-            return Passed {
-                at: i,
-                previous: tag,
-                operators: n,
-            };
-        }
-        if !lists::alone(s, i + 1) {
-            return Passed {
-                at: i,
-                previous: tag,
-                operators: n,
-            };
-        }
-        tag = found;
-        n += 1;
-        i += 3;
     }
 }
 
@@ -150,7 +186,7 @@ pub fn walk(reading: Reading, s: &[u8], stop: usize) -> Walked
     let mut previous: u8 = 0;
     let mut operators: usize = 0;
     loop {
-        let p = pass_lone(reading, s, stop, at, previous, operators);
+        let p = pass_common(reading, s, stop, at, previous, operators);
         at = p.at;
         previous = p.previous;
         operators = p.operators;

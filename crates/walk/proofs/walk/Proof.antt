@@ -13,7 +13,7 @@ use Rattle.walk.proofs.walk.Tie as tie
 use Rattle.walk.proofs.walk.Reads as reads
 use Rattle.walk.proofs.walk.Lts as lts
 use Rattle.walk.proofs.component_at.Reads as component-at-reads
-use Rattle.walk.proofs.pass_lone.Reads as pass-lone-reads
+use Rattle.walk.proofs.pass_common.Reads as pass-common-reads
 
 abbrev Inv-loop : tie.InvT-loop
 Inv-loop reading s stop at₀ previous₀ operators₀ at previous operators = Walking reading s stop at previous operators
@@ -24,14 +24,14 @@ abbrev μ-loop : tie.MeasureT-loop
 loop-holds : tie.Need-loop-holds Inv-loop μ-loop
 loop-holds c = walking-first _ _ _
 
-pass-lone-requires : tie.Need-pass-lone-requires Inv-loop μ-loop
-pass-lone-requires c κs = c .loop .inv
+pass-common-requires : tie.Need-pass-common-requires Inv-loop μ-loop
+pass-common-requires c κs = c .loop .inv
 
 returns : tie.Need-returns Inv-loop μ-loop
-returns c = walking-end (c .before .pass-lone .ensures .0) (c .if1 .taken)
+returns c = walking-end (c .before .pass-common .ensures .0) (c .if1 .taken)
 
 -- what the turn saw of the component at its place
-saw : (c : tie.After-known-told Inv-loop μ-loop) → let p = c .before .before .before .before .before .pass-lone .result in
+saw : (c : tie.After-known-told Inv-loop μ-loop) → let p = c .before .before .before .before .before .pass-common .result in
     accepts (sight (c .before .more .given .0 .0) (c .before .more .given .0 .1 .0 .at))
     ≡ seen (componentAt (c .before .before .before .before .before .before .before .before .args .reading) (c .before .before .before .before .before .before .before .before .args .s .now) (p .at) (p .previous) (p .operators))
 saw c = sym (ap toldFound (c .before .more .given .1)) ∙ c .before .before .before .component-at .ensures _
@@ -39,29 +39,29 @@ saw c = sym (ap toldFound (c .before .more .given .1)) ∙ c .before .before .be
 shared-slice-read-previous : tie.Need-shared-slice-read-previous Inv-loop μ-loop
 shared-slice-read-previous c =
     let k = c .before in
-    found-bounds (k .before .before .before .before .before .pass-lone .ensures .0) (k .before .before .before .before .if1 .left) (saw k) .0
+    found-bounds (k .before .before .before .before .before .pass-common .ensures .0) (k .before .before .before .before .if1 .left) (saw k) .0
 
 add-operators : tie.Need-add-operators Inv-loop μ-loop
 add-operators c =
     let k = c .before in
-    let w = k .before .before .before .before .before .pass-lone .ensures .0 in
+    let w = k .before .before .before .before .before .pass-common .ensures .0 in
     omega (arith, found-bounds w (k .before .before .before .before .if1 .left) (saw k), w .place, k .before .before .before .before .before .before .before .before .good)
 
 loop-less : tie.Need-loop-less Inv-loop μ-loop
 loop-less c =
     let k = c .before in
-    let p = k .before .before .before .before .before .pass-lone in
+    let p = k .before .before .before .before .before .pass-common in
     omega (arith, p .ensures .1, found-bounds (p .ensures .0) (k .before .before .before .before .if1 .left) (saw k))
 
 loop-again : tie.Need-loop-again Inv-loop μ-loop
 loop-again c =
     let k = c .before in
-    walking-more (k .before .before .before .before .before .pass-lone .ensures .0) (k .before .before .before .before .if1 .left) (saw k)
+    walking-more (k .before .before .before .before .before .pass-common .ensures .0) (k .before .before .before .before .if1 .left) (saw k)
 
 returns-2 : tie.Need-returns-2 Inv-loop μ-loop
 returns-2 c =
     let a = c .before .before .before in
-    walking-refused (a .before .before .pass-lone .ensures .0) (a .before .if1 .left) (sym (ap toldFound (c .before .fault .given .1)) ∙ a .component-at .ensures _)
+    walking-refused (a .before .before .pass-common .ensures .0) (a .before .if1 .left) (sym (ap toldFound (c .before .fault .given .1)) ∙ a .component-at .ensures _)
 
 pub walk-spec : {M : Type 1} → statement M
 walk-spec =
@@ -70,7 +70,7 @@ walk-spec =
     Inv-loop
     μ-loop
     loop-holds
-    pass-lone-requires
+    pass-common-requires
     returns
     (λ c κs. search needs)
     (λ c. search needs)
