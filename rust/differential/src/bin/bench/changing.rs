@@ -3,7 +3,7 @@
 
 use crate::coding::ORIGINAL;
 use crate::deciding::{table, RUST};
-use crate::timing::{heading, opaque, repeat, row, times, Bar};
+use crate::timing::{heading, opaque, repeat, row, times, Bar, Times};
 use differential::compare::Comparison;
 use differential::stored::WORDS;
 use differential::{archive, packets, wordwise, Form, MOST_OPERATORS};
@@ -174,7 +174,7 @@ fn answers_agree(inputs: &[Vec<u8>], rules: &[Flow], packets: &[Packet]) -> bool
     comparison.differ == 0
 }
 
-fn parse_times(inputs: &[Vec<u8>]) -> [f64; 2] {
+fn parse_times(inputs: &[Vec<u8>]) -> Times<2> {
     let (mut words, mut values) = ([0; WORDS], [0; MOST_OPERATORS]);
     let mut octets = [0; MOST_OPERATORS];
     let mut ours = inputs.iter().cycle();
@@ -197,7 +197,7 @@ fn parse_times(inputs: &[Vec<u8>]) -> [f64; 2] {
     ])
 }
 
-fn choose_times(rules: &[Flow], packets: &[Packet]) -> [f64; 3] {
+fn choose_times(rules: &[Flow], packets: &[Packet]) -> Times<3> {
     let table = &table(rules);
     let words: Vec<[u64; packets::WORDS]> = packets.iter().map(packets::words).collect();
     let (mut ours, mut theirs) = (words.iter().cycle(), words.iter().cycle());

@@ -2,12 +2,12 @@
 //! answers, by the plain and by the standard reading.
 
 use crate::coding::{ports, FIVE, FIVE_OCTETS, PORTS, REFUSED};
-use crate::timing::{heading, opaque, repeat, row, times, Bar};
+use crate::timing::{heading, opaque, repeat, row, times, Bar, Times};
 use differential::compare::Comparison;
 use differential::{archive, validator, Form};
 use inputs::{framed, octets};
 
-/// At most so much of the validator's time.
+/// At most so much of the validator's time, on what is accepted.
 const CHECK: f64 = 1.0;
 
 /// RFC 8955, 4.3, first example: to 192.0.2.0/24, TCP, port 25.
@@ -17,6 +17,8 @@ struct Case {
     name: String,
     form: Form,
     input: Vec<u8>,
+    /// The bar, if it has one.
+    most: Option<f64>,
 }
 
 /// Times all; nothing where the answers differ.
@@ -32,17 +34,18 @@ pub fn bench(bars: &mut Vec<Bar>) -> bool {
     heading("octets", ["proved", "Rust"]);
     for case in &cases {
         let ratio = row("check", &case.name, case.input.len(), check_times(case));
-        bars.push(Bar {
+        bars.extend(case.most.map(|most| Bar {
             what: format!("check, {}", case.name),
             figure: ratio,
             of: "the Rust validator's time".to_string(),
-            most: CHECK,
-        });
+            most,
+        }));
     }
     true
 }
 
-/// The cases by each reading, but for the one that the standard reading accepts.
+/// The cases by each reading, but for the refused one that the standard reading accepts. Those that
+/// are refused have no bar.
 fn cases() -> Vec<Case> {
     let accepted = [
         ("12-octet rule", octets(TWELVE)),
@@ -52,19 +55,21 @@ fn cases() -> Vec<Case> {
     let refused = REFUSED.map(|(name, input)| (name, octets(input)));
     let mut cases = Vec::new();
     for (told, form) in [("standard", Form::Standard(4)), ("plain", Form::Plain)] {
-        let case = |(name, input): &(&str, Vec<u8>)| Case {
+        let case = |(name, input): &(&str, Vec<u8>), most| Case {
             name: format!("{told}, {name}"),
             form,
             input: input.clone(),
+            most,
         };
-        cases.extend(accepted.iter().map(case));
+        cases.extend(accepted.iter().map(|told| case(told, Some(CHECK))));
         let is_refused = |case: &Case| validator::check(form, &case.input).is_err();
-        cases.extend(refused.iter().map(case).filter(is_refused));
+        let refused = refused.iter().map(|told| case(told, None));
+        cases.extend(refused.filter(is_refused));
     }
     cases
 }
 
-fn check_times(case: &Case) -> [f64; 2] {
+fn check_times(case: &Case) -> Times<2> {
     let (form, input) = (case.form, &case.input[..]);
     times([
         &mut |calls| {

@@ -1,6 +1,6 @@
 //! Readings and writings: the plain ones beside the original Rust, the standard ones beside the plain.
 
-use crate::timing::{heading, opaque, repeat, row, times, Bar};
+use crate::timing::{heading, opaque, repeat, row, times, Bar, Side, Times};
 use differential::compare::Comparison;
 use differential::stored::{Stored, WORDS};
 use differential::{archive, peers, Form, LONGEST_BODY, LONGEST_INPUT, MOST_OPERATORS};
@@ -57,24 +57,24 @@ pub fn bench(bars: &mut Vec<Bar>) -> bool {
 
 fn plain(accepted: &[Case], refused: &[Case], bars: &mut Vec<Bar>) {
     heading("octets", ["proved", "original"]);
-    let mut parse = Vec::new();
     for case in accepted.iter().chain(refused) {
-        let times = parse_times(case);
-        parse.push(times[0]);
-        let ratio = row("parse", case.name, case.input.len(), times);
+        let ratio = row("parse", case.name, case.input.len(), parse_times(case));
         let bar = |most| bar("parse", case, ratio, ORIGINAL, most);
         bars.extend(case.parse.map(bar));
     }
-    let mut encode = Vec::new();
     for case in accepted {
-        let times = encode_times(case);
-        encode.push(times[0]);
-        let ratio = row("encode", case.name, case.input.len(), times);
+        let ratio = row("encode", case.name, case.input.len(), encode_times(case));
         let bar = |most| bar("encode", case, ratio, ORIGINAL, most);
         bars.extend(case.encode.map(bar));
     }
-    bars.push(growth("parse", accepted, &parse));
-    bars.push(growth("encode", accepted, &encode));
+    let lists = [MANY_PORTS, PORTS].map(|name| {
+        let case = accepted.iter().find(|case| case.name == name);
+        &case.expect("both lists are among the cases").input[..]
+    });
+    let [mut long, mut short] = lists.map(|input| reading(Form::Plain, input));
+    bars.push(growth("parse", lists, [&mut long, &mut short]));
+    let [mut long, mut short] = lists.map(|input| writing(Form::Plain, input));
+    bars.push(growth("encode", lists, [&mut long, &mut short]));
 }
 
 /// On the same inputs, but for the one that the standard reading accepts.
@@ -231,7 +231,7 @@ fn writing(form: Form, input: &[u8]) -> impl FnMut(u64) -> u64 {
     }
 }
 
-fn parse_times(case: &Case) -> [f64; 2] {
+fn parse_times(case: &Case) -> Times<2> {
     let input = &case.input[..];
     let mut original = |calls| {
         repeat(calls, || {
@@ -241,7 +241,7 @@ fn parse_times(case: &Case) -> [f64; 2] {
     times([&mut reading(Form::Plain, input), &mut original])
 }
 
-fn encode_times(case: &Case) -> [f64; 2] {
+fn encode_times(case: &Case) -> Times<2> {
     let rule = parse_flowspec_nlri(&case.input).expect("these cases are accepted");
     let mut original = |calls| {
         repeat(calls, || {
@@ -251,16 +251,12 @@ fn encode_times(case: &Case) -> [f64; 2] {
     times([&mut writing(Form::Plain, &case.input), &mut original])
 }
 
-/// The proved code's time per octet of the long port list, by that of the short one.
-fn growth(call: &str, cases: &[Case], times: &[f64]) -> Bar {
-    let per_octet = |name| {
-        let place = cases.iter().position(|case| case.name == name);
-        let place = place.expect("both lists are among the cases");
-        times[place] / cases[place].input.len() as f64
-    };
+/// The proved code's time per octet of the long port list, by that of the short one; the two in turns.
+fn growth(call: &str, lists: [&[u8]; 2], sides: [Side; 2]) -> Bar {
+    let [long, short] = lists.map(|list| list.len() as f64);
     Bar {
         what: format!("{call}, {MANY_PORTS}"),
-        figure: per_octet(MANY_PORTS) / per_octet(PORTS),
+        figure: times(sides).ratio * short / long,
         of: format!("the time per octet of the {PORTS}"),
         most: 1.0,
     }

@@ -4,7 +4,7 @@
 //! The bar is the first's time.
 
 use crate::coding::{ports, FIVE_OCTETS};
-use crate::timing::{heading, opaque, repeat, row, times, Bar};
+use crate::timing::{heading, opaque, repeat, row, times, Bar, Times};
 use differential::compare::Comparison;
 use differential::stored::Stored;
 use differential::{archive, packets, tables, wordwise};
@@ -74,10 +74,10 @@ pub fn bench(bars: &mut Vec<Bar>) -> bool {
 
 /// The time of eight times as much, by eight times the time; the two in turns.
 fn growth(what: &str, of: &str, less: &Case, more: &Case) -> Bar {
-    let [less, more] = times([&mut proved(less), &mut proved(more)]);
+    let times = times([&mut proved(more), &mut proved(less)]);
     Bar {
         what: format!("choose, {what}"),
-        figure: more / (8.0 * less),
+        figure: times.ratio / 8.0,
         of: format!("8 times the time of {of}"),
         most: GROWTH,
     }
@@ -217,7 +217,7 @@ fn answers_agree<'a>(pairs: &[(&str, Flow, Flow)], cases: impl Iterator<Item = &
     comparison.differ == 0
 }
 
-fn rank_times(one: &Flow, other: &Flow) -> [f64; 3] {
+fn rank_times(one: &Flow, other: &Flow) -> Times<3> {
     let (ours, theirs) = (&stored(one), &stored(other));
     times([
         &mut |calls| {
@@ -244,7 +244,7 @@ fn proved(case: &Case) -> impl FnMut(u64) -> u64 {
     }
 }
 
-fn choose_times(case: &Case) -> [f64; 3] {
+fn choose_times(case: &Case) -> Times<3> {
     let (table, words) = (&table(&case.rules), &packets::words(&case.packet));
     let (rules, packet) = (&case.rules[..], &case.packet);
     times([

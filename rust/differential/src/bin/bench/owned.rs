@@ -3,7 +3,7 @@
 
 use crate::coding::{ports, FIVE, FIVE_OCTETS, ORIGINAL, PORTS, SEVEN, SEVEN_OCTETS};
 use crate::deciding::{self, cases};
-use crate::timing::{heading, opaque, repeat, row, times, Bar};
+use crate::timing::{heading, opaque, repeat, row, times, Bar, Times};
 use inputs::{framed, octets};
 use krubbadin::{Family, Table};
 use oracle::flowspec::parse_flowspec_nlri;
@@ -99,7 +99,7 @@ fn same_choice(choice: &Choice) -> bool {
     ours.ok() == theirs.ok()
 }
 
-fn parse_times(input: &[u8]) -> [f64; 2] {
+fn parse_times(input: &[u8]) -> Times<2> {
     times([
         &mut |calls| {
             repeat(calls, || {
@@ -114,7 +114,7 @@ fn parse_times(input: &[u8]) -> [f64; 2] {
     ])
 }
 
-fn choose_times(choice: &Choice) -> [f64; 2] {
+fn choose_times(choice: &Choice) -> Times<2> {
     let (table, packet) = (&choice.table, &choice.packet);
     let case = &choice.case;
     times([

@@ -10,19 +10,46 @@ pub const TURN: Duration = Duration::from_millis(1);
 /// A side makes so many calls and tells how many were refused, so that no answer goes unused.
 pub type Side<'a> = &'a mut dyn FnMut(u64) -> u64;
 
-/// The best time of a call on each side, in nanoseconds.
-pub fn times<const SIDES: usize>(mut sides: [Side; SIDES]) -> [f64; SIDES] {
+/// What the turns of some sides tell.
+pub struct Times<const SIDES: usize> {
+    /// The best time of a call on each side, in nanoseconds.
+    pub best: [f64; SIDES],
+    /// The first side's time by the second's: the median of what each pair of turns gives.
+    pub ratio: f64,
+}
+
+/// Times the sides in turns. The machine's clock changes within a run, but hardly between two turns
+/// that follow each other: so the first two sides' turns do, and each goes first every other time.
+pub fn times<const SIDES: usize>(mut sides: [Side; SIDES]) -> Times<SIDES> {
     let mut calls = [0; SIDES];
     for (calls, side) in calls.iter_mut().zip(&mut sides) {
         *calls = turn_length(side);
     }
-    let mut best = [f64::INFINITY; SIDES];
-    for _ in 0..TURNS {
-        for place in 0..SIDES {
-            best[place] = best[place].min(turn(sides[place], calls[place]));
-        }
+    let mut order = [0; SIDES];
+    for (place, side) in order.iter_mut().enumerate() {
+        *side = place;
     }
-    best
+    let mut best = [f64::INFINITY; SIDES];
+    let mut ratios = [0.0; TURNS];
+    for ratio in &mut ratios {
+        let mut taken = [0.0; SIDES];
+        for side in order {
+            taken[side] = turn(sides[side], calls[side]);
+            best[side] = best[side].min(taken[side]);
+        }
+        *ratio = taken[0] / taken[1];
+        order.swap(0, 1);
+    }
+    Times {
+        best,
+        ratio: median(ratios),
+    }
+}
+
+/// The mean of the two in the middle, as there is an even number of turns.
+fn median(mut ratios: [f64; TURNS]) -> f64 {
+    ratios.sort_by(f64::total_cmp);
+    (ratios[TURNS / 2 - 1] + ratios[TURNS / 2]) / 2.0
 }
 
 /// So many calls, and how many were refused.
@@ -77,8 +104,8 @@ pub fn is_met(bar: &Bar) -> bool {
     met
 }
 
-/// The columns of a table: what is called, on what, its size, the sides, and the ratio of the first
-/// two.
+/// The columns of a table: what is called, on what, its size, the sides' best times, and the ratio of
+/// the first two.
 pub fn heading<const SIDES: usize>(size: &str, sides: [&str; SIDES]) {
     let (call, case) = ("call", "case");
     let sides = sides.map(|side| format!("{side:>9}")).join(" ");
@@ -86,9 +113,9 @@ pub fn heading<const SIDES: usize>(size: &str, sides: [&str; SIDES]) {
 }
 
 /// A row of a table; the ratio.
-pub fn row<const SIDES: usize>(call: &str, case: &str, size: usize, times: [f64; SIDES]) -> f64 {
-    let ratio = times[0] / times[1];
-    let times = times.map(|time| format!("{time:9.1}")).join(" ");
+pub fn row<const SIDES: usize>(call: &str, case: &str, size: usize, times: Times<SIDES>) -> f64 {
+    let Times { best, ratio } = times;
+    let times = best.map(|time| format!("{time:9.1}")).join(" ");
     println!("{call:6}  {case:38} {size:6} {times} {ratio:6.3}");
     ratio
 }
