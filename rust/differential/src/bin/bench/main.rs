@@ -1,9 +1,8 @@
 //! Times the proved code beside Rust; `tools/bench` builds and runs this and says how.
 //!
-//! Both sides get the same octets and the same rules in one process, in turns, and what counts
-//! is the ratio of two turns that follow each other, its median. The proved code fills lists that are
-//! lent once. The original allocates what it answers, and giving that back is in its time, as it is
-//! for its callers.
+//! Both sides get the same octets and the same rules in one process, in turns, and the best turn of
+//! each counts. The proved code fills lists that are lent once. The original allocates what it
+//! answers, and giving that back is in its time, as it is for its callers.
 
 mod changing;
 mod checking;
@@ -24,8 +23,7 @@ fn main() -> ExitCode {
     }
     let turn = TURN.as_millis();
     println!(
-        "ns a call, the best of {TURNS} turns of at least {turn} ms. The ratio is of the first two sides, which\n\
-         take turns: the median of what each two turns that follow each other give.\n\
+        "ns a call, the best of {TURNS} turns of at least {turn} ms, the sides in turns.\n\
          Lent to the proved code, the same in each reading and writing: {WORDS} words, {MOST_OPERATORS} values,\n\
          {MOST_OPERATORS} operator octets, {LONGEST_INPUT} octets of output. The original allocates what it\n\
          answers and frees it within the time."

@@ -4,7 +4,7 @@ use std::ptr;
 use std::time::{Duration, Instant};
 
 /// The turns that each side has, and how long one lasts at least.
-pub const TURNS: usize = 100;
+pub const TURNS: usize = 400;
 pub const TURN: Duration = Duration::from_millis(1);
 
 /// A side makes so many calls and tells how many were refused, so that no answer goes unused.
@@ -14,12 +14,11 @@ pub type Side<'a> = &'a mut dyn FnMut(u64) -> u64;
 pub struct Times<const SIDES: usize> {
     /// The best time of a call on each side, in nanoseconds.
     pub best: [f64; SIDES],
-    /// The first side's time by the second's: the median of what each pair of turns gives.
+    /// The first side's time by the second's.
     pub ratio: f64,
 }
 
-/// Times the sides in turns. The machine's clock changes within a run, but hardly between two turns
-/// that follow each other: so the first two sides' turns do, and each goes first every other time.
+/// Times the sides in turns, of which the first two go first by turns.
 pub fn times<const SIDES: usize>(mut sides: [Side; SIDES]) -> Times<SIDES> {
     let mut calls = [0; SIDES];
     for (calls, side) in calls.iter_mut().zip(&mut sides) {
@@ -30,26 +29,16 @@ pub fn times<const SIDES: usize>(mut sides: [Side; SIDES]) -> Times<SIDES> {
         *side = place;
     }
     let mut best = [f64::INFINITY; SIDES];
-    let mut ratios = [0.0; TURNS];
-    for ratio in &mut ratios {
-        let mut taken = [0.0; SIDES];
+    for _ in 0..TURNS {
         for side in order {
-            taken[side] = turn(sides[side], calls[side]);
-            best[side] = best[side].min(taken[side]);
+            best[side] = best[side].min(turn(sides[side], calls[side]));
         }
-        *ratio = taken[0] / taken[1];
         order.swap(0, 1);
     }
     Times {
         best,
-        ratio: median(ratios),
+        ratio: best[0] / best[1],
     }
-}
-
-/// The mean of the two in the middle, as there is an even number of turns.
-fn median(mut ratios: [f64; TURNS]) -> f64 {
-    ratios.sort_by(f64::total_cmp);
-    (ratios[TURNS / 2 - 1] + ratios[TURNS / 2]) / 2.0
 }
 
 /// So many calls, and how many were refused.
