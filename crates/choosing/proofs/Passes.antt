@@ -13,7 +13,7 @@ use Rattle.ranking.specs.Ranks.{isBefore}
 use Rattle.verdicts.specs.declared.Judged.{Judged}
 use Rattle.verdicts.specs.Verdicts.{judgement}
 use Rattle.choosing.specs.Choosing.{Table, formedAt, familyIs, matchesAt, rankAt, Choice, place, none, allBelow, orElse, firstFailing, better, bestBelow}
-use Rattle.choosing.specs.Passes.{placeOr, foundOr, betterOf, foundIf, foundBelow}
+use Rattle.choosing.specs.Passes.{placeOr, foundOr, rankedOf, betterOf, foundIf, foundBelow}
 
 -- a choice is of a place below a number
 abbrev pub Below : ℕ → Choice → Type 0
@@ -80,7 +80,11 @@ better-step t n i l c false h = refl
 better-step t n i l none true h = rw (le-leb n n (omega arith)) refl
 better-step t n i l (place b) true h = by-test (isBefore (rankAt t i b)) (λ f. rw (lt-leb n b (omega arith), f) refl) (λ f. rw (lt-leb n b (omega arith), f) refl)
 
--- the ways that `better` goes: by whether the rule is met, whether there is a best so far, and what the rule is to it
+-- what a rule is to the best so far
+pub by-rank : (t : Table) (best i : ℕ) (found o : Order) → found ≡ rankAt t i best → found ≡ o → pick (isBefore o) i best ≡ rankedOf t best i
+by-rank t best i found o f g = let r : rankAt t i best ≡ o = sym f ∙ g in rw r
+
+-- the ways that `better` goes: by whether the rule is met, and whether there is a best so far
 module _ (t : Table) (n best i : ℕ) (met : Bool) where
   pub not-met : not met ≡ true → best ≡ betterOf t n best i met
   not-met e = rw (not-true met e)
@@ -89,8 +93,8 @@ module _ (t : Table) (n best i : ℕ) (met : Bool) where
     pub first-met : n ≤ best → i ≡ betterOf t n best i met
     first-met h = rw (not-false met e, le-leb n best h)
 
-    pub by-rank : best < n → (found o : Order) → found ≡ rankAt t i best → found ≡ o → pick (isBefore o) i best ≡ betterOf t n best i met
-    by-rank h found o f g = let r : rankAt t i best ≡ o = sym f ∙ g in rw (not-false met e, lt-leb n best h, r)
+    pub later-met : best < n → rankedOf t best i ≡ betterOf t n best i met
+    later-met h = rw (not-false met e, lt-leb n best h)
 
 best-more : (t : Table) (p : Packet) (n i best : ℕ) → i < n → best ≡ placeOr n (bestBelow t p i) → betterOf t n best i (matchesAt t p i) ≡ placeOr n (bestBelow t p (suc i))
 unfolding bestBelow

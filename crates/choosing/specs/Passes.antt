@@ -17,9 +17,13 @@ placeOr n none = n
 abbrev pub foundOr : ℕ → ℕ → ℕ → Bool → ℕ
 foundOr found n i same = pick (ltb found n) found (pick same n i)
 
+-- the better of two rules, the first of them where they rank equal
+abbrev pub rankedOf : Table → ℕ → ℕ → ℕ
+rankedOf t best i = pick (isBefore (rankAt t i best)) i best
+
 -- the better of the best so far and the rule at a place, where it is met
 abbrev pub betterOf : Table → ℕ → ℕ → ℕ → Bool → ℕ
-betterOf t n best i met = pick met (pick (leb n best) i (pick (isBefore (rankAt t i best)) i best)) best
+betterOf t n best i met = pick met (pick (leb n best) i (rankedOf t best i)) best
 
 -- where every rule is well-formed, the first place of another family and the best
 abbrev pub foundIf : Bool → ℕ → ℕ → ℕ → Found

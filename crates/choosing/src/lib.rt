@@ -8,7 +8,7 @@ ghost use Prim.Native.Nat.{_+_, _*_, _≤_, _<_};
 ghost use lib.ListN.{length};
 ghost use Rattle.packets.specs.Packets.{packetOk, packetAt};
 ghost use Rattle.choosing.specs.Choosing.{table, formedAt, chosenIn, toldChosen, Decided};
-ghost use Rattle.choosing.specs.Passes.{foundOr, betterOf, foundBelow};
+ghost use Rattle.choosing.specs.Passes.{foundOr, rankedOf, betterOf, foundBelow};
 use ranking::Order;
 use refusals::Fault;
 use refusals::FlowSpecError;
@@ -42,6 +42,29 @@ fn first_failing(found: usize, n: usize, i: usize, same: bool) -> usize
     i
 }
 
+// The better of two rules. It stands by itself, so that the compiler leaves it out of the pass and keeps that short.
+fn ranked(words: &[u64], values: &[u64], octets: &[u8], best: usize, i: usize) -> usize
+    requires formed { ⌜ formedAt (table (now words) (now values) (now octets)) i ≡ true ⌝ }
+    requires best { ⌜ formedAt (table (now words) (now values) (now octets)) best ≡ true ⌝ }
+    requires place { ⌜ (64 * i ≤ length (now words)) × (64 * best ≤ length (now words)) ⌝ }
+    ensures { λ r. ⌜ r ≡ rankedOf (table (now (words .entry)) (now (values .entry)) (now (octets .entry))) best i ⌝ }
+{
+    match ranking::compare_rules(
+        words,
+        64 * i,
+        values,
+        octets,
+        words,
+        64 * best,
+        values,
+        octets,
+    ) {
+        Order::Precedes => i,
+        Order::Equal => best,
+        Order::Follows => best,
+    }
+}
+
 // The better of the best so far, n where there is none, and the rule at a place, where it is met.
 fn better(
     words: &[u64],
@@ -63,20 +86,7 @@ fn better(
     if n <= best {
         return i;
     }
-    match ranking::compare_rules(
-        words,
-        64 * i,
-        values,
-        octets,
-        words,
-        64 * best,
-        values,
-        octets,
-    ) {
-        Order::Precedes => i,
-        Order::Equal => best,
-        Order::Follows => best,
-    }
+    ranked(words, values, octets, best, i)
 }
 
 // The pass: every rule is tested, since BadRecord goes before MixedFamily.

@@ -273,3 +273,33 @@ module _ (o v m : ℕ) (octet : o < 256) (word : v < 2 ^ 64) (is : m ≡ getD be
 
   pub alone-is : not (eqb (o / 64) 2) || not (eqb (bitAnd v m) 0) ≡ false → 2 + widthOf o ≡ oneSize o v
   alone-is e = rw (alone-takes, not-false (eqb (o / 64) 2 && eqb (bitAnd v m) 0) (sym (neither (eqb (o / 64) 2) (eqb (bitAnd v m) 0)) ∙ e))
+
+-- two operators: neither of the first's two highest bits is set, the second's highest is, and no bit past a width
+unmarked : (o : ℕ) → o < 256 → eqb (o / 64) 0 ≡ (not (eqb (o % 128 / 64) 1) && not (leb 128 o))
+unmarked o b =
+    by-test (eqb (o / 64) 0)
+    (λ e. let k : o / 64 ≡ 0 = eqb-true (o / 64) 0 e in rw (e, ne-eqb (o % 128 / 64) 1 (λ z. omega arith), lt-leb 128 o (omega arith)))
+    (λ e. let k = eqb-false (o / 64) 0 e in
+    ⊎-elim
+    (λ l. rw (e, eq-eqb (o % 128 / 64) 1 (⊎-elim (λ a. absurd (k (omega arith))) (λ a. omega arith) (lt-or-le o 64))))
+    (λ l. rw (e, le-leb 128 o l) (sym (and-false (not (eqb (o % 128 / 64) 1)))))
+    (lt-or-le o 128))
+
+in-turn : (x f y g l : Bool) → (((x && y) && l) && (f && g)) ≡ (x && (f && (y && (g && l))))
+in-turn true true true true true = refl
+in-turn true true true true false = refl
+in-turn true true true false true = refl
+in-turn true true true false false = refl
+in-turn true true false g l = refl
+in-turn true false true g true = refl
+in-turn true false true g false = refl
+in-turn true false false g l = refl
+in-turn false f y g l = refl
+
+module _ (o v m : ℕ) (octet : o < 256) (word : v < 2 ^ 64) (is : m ≡ getD beyond (codeIn o) 0)
+    (p w n : ℕ) (octet₂ : p < 256) (word₂ : w < 2 ^ 64) (is₂ : n ≡ getD beyond (codeIn p) 0) where
+  pub pair-takes : ((eqb (o / 64) 0 && leb 128 p) && eqb (bitOr (bitAnd v m) (bitAnd w n)) 0) ≡ takes (op o v ∷ op p w ∷ [])
+  unfolding takes ends
+  pair-takes =
+      ap₂ (λ x y. (x && leb 128 p) && y) (unmarked o octet) (or-none (bitAnd v m) (bitAnd w n) ∙ ap₂ _&&_ (alone-fits o v m octet word is) (alone-fits p w n octet₂ word₂ is₂))
+      ∙ in-turn (not (eqb (o % 128 / 64) 1)) (fitsIn o v) (not (leb 128 o)) (fitsIn p w) (leb 128 p)

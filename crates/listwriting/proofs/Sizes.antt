@@ -37,6 +37,15 @@ pub ops-one : (vs os : List ℕ) (at : ℕ) → opsIn vs os at 1 ≡ op (getD os
 unfolding opsIn
 ops-one vs os at = refl
 
+-- and two
+pub size-two : (os : List ℕ) (at : ℕ) → sizeIn os at 2 ≡ 2 + widthOf (getD os at 0) + widthOf (getD os (at + 1) 0)
+unfolding sizeIn
+size-two os at = omega arith
+
+pub ops-two : (vs os : List ℕ) (at : ℕ) → opsIn vs os at 2 ≡ op (getD os at 0) (getD vs at 0) ∷ op (getD os (at + 1) 0) (getD vs (at + 1) 0) ∷ []
+unfolding opsIn
+ops-two vs os at = refl
+
 -- some octets of some operators
 pub size-least : (os : List ℕ) (at n : ℕ) → 0 < n → 0 < sizeIn os at n
 unfolding sizeIn

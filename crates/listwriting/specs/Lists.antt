@@ -36,3 +36,7 @@ takenSize values octets from count = pick (takes (opsIn values octets from count
 -- the octets of a component whose list is one operator, its type octet too
 abbrev pub oneSize : ℕ → ℕ → ℕ
 oneSize octet value = pick (takes (op octet value ∷ [])) (2 + widthOf octet) 0
+
+-- and of one whose list is two
+abbrev pub pairSize : ℕ → ℕ → ℕ → ℕ → ℕ
+pairSize octet value octet₂ value₂ = pick (takes (op octet value ∷ op octet₂ value₂ ∷ [])) (3 + widthOf octet + widthOf octet₂) 0

@@ -10,7 +10,7 @@ ghost use lib.ListN.{length, getD};
 ghost use lib.Seq.{sets};
 ghost use Rattle.octets.specs.Widths.{widths, codeIn};
 ghost use Rattle.operators.specs.Ops.{opsIn, listOctets};
-ghost use Rattle.listwriting.specs.Lists.{sizeIn, oneSize, takenSize};
+ghost use Rattle.listwriting.specs.Lists.{sizeIn, oneSize, pairSize, takenSize};
 ghost use Rattle.listwriting.specs.Runs.{beyond, Put, Alike, Joined, Adds, nothing};
 use operators::Kind;
 
@@ -195,6 +195,19 @@ pub fn one_size(octet: u8, value: u64) -> usize
         return 0;
     }
     2 + octets::stride(code)
+}
+
+// The same of a type and two operators, which a range of numbers is.
+pub fn pair_size(octet: u8, value: u64, octet2: u8, value2: u64) -> usize
+    ensures { λ r. ⌜ r ≡ pairSize octet value octet2 value2 ⌝ }
+{
+    let code = octet / 16 % 4;
+    let code2 = octet2 / 16 % 4;
+    let over = (value & bits_beyond(code)) | (value2 & bits_beyond(code2));
+    if (octet / 64 == 0) & (128 <= octet2) & (over == 0) {
+        return 3 + octets::stride(code) + octets::stride(code2);
+    }
+    0
 }
 
 // In the standard writing: the octets of the operators at so many places, 0 where the list is not taken. No entry point.

@@ -117,6 +117,9 @@ pub fn prefix_matches(prefix: NetworkPrefix, a: Wide) -> bool
 fn counted_bits(family: u64, tag: u8) -> u64
     ensures { λ r. ⌜ r ≡ countedBits family tag ⌝ }
 {
+    if tag < 11 {
+        return ALL_BITS;
+    }
     if tag == 11 {
         return 63;
     }

@@ -2,10 +2,10 @@
 use Prim.Native.Nat.{ℕ, suc, _+_, _-_, _*_, _^_, _≤_, _<_}
 use mathlib.Core.Path.{_≡_, refl, sym, ap, ap₂, _∙_}
 use mathlib.Core.List.{[], _∷_}
-use mathlib.Core.Bool.{Bool, true, false, _&&_, _||_, and-true, false≢true}
+use mathlib.Core.Bool.{Bool, true, false, _&&_, and-true, false≢true}
 use native.Mathlib.Omega.{arith}
-use borrow.Author.Tests.{le-leb, lt-leb, leb-true, eqb-true, ltb-true}
-use lib.Dec.{eqb, leb, ltb}
+use borrow.Author.Tests.{le-leb, lt-leb, leb-true}
+use lib.Dec.{eqb, leb}
 use lib.ListN.{length, getD}
 use Rattle.ground.specs.Picks.{pick}
 use Rattle.ground.proofs.Cases.{by-test, both}
@@ -16,14 +16,14 @@ use Rattle.octets.specs.Widths.{widthOf}
 use Rattle.operators.specs.Ops.{kindOf, op, opsIn}
 use Rattle.rules.specs.declared.NetworkPrefix.{NetworkPrefix}
 use Rattle.rules.specs.declared.NetworkPrefix.the-variants.{Ipv4 as V4, Ipv6 as V6, Ipv4Offset, Ipv6Offset}
-use Rattle.prefixes.specs.Prefixes.{offsetFits}
 use Rattle.prefixes.specs.Forms.{inRange}
 use Rattle.prefixes.proofs.Addresses.{none-before}
+use Rattle.prefixes.proofs.Laws.{fits-le}
 use Rattle.prefixwriting.specs.Writings.{octetsInPlain, octetsInStandard, standardRange}
 use Rattle.prefixwriting.proofs.Puts.{length-plain, length-standard, valid-ranged}
-use Rattle.listwriting.specs.Lists.{sizeIn, takes, takenSize, oneSize}
+use Rattle.listwriting.specs.Lists.{sizeIn, takes, takenSize, oneSize, pairSize}
 use Rattle.listwriting.proofs.Laws.{takes-none}
-use Rattle.listwriting.proofs.Sizes.{length-list, size-least, size-most, size-one, ops-one}
+use Rattle.listwriting.proofs.Sizes.{length-list, size-least, size-most, size-one, ops-one, size-two, ops-two}
 use Rattle.stored.specs.declared.Piece.{Piece}
 use Rattle.stored.specs.declared.Piece.the-variants.{Prefix, Operators, NoRecord}
 use Rattle.stored.specs.Pieces.{typeOf}
@@ -41,20 +41,9 @@ plain-most (V6 len h l) e = omega (arith, leb-true len 128 e)
 plain-most (Ipv4Offset len off a) e = omega arith
 plain-most (Ipv6Offset len off h l) e = omega (arith, leb-true len 128 e)
 
-second : (a b c : Bool) → a ≡ false → ((a && b) || c) ≡ true → c ≡ true
-second true b c z e = absurd (false≢true (sym z))
-second false b c z e = e
-
-offset-most : (len off : ℕ) → offsetFits len off ≡ true → len ≤ 128
-offset-most len off e =
-    by-test (eqb len 0)
-    (λ z. let n : len ≡ 0 = eqb-true len 0 z in omega arith)
-    (λ z. let f = both (ltb off len) (ltb len 129) (second (eqb len 0) (eqb off 0) (ltb off len && ltb len 129) z e) in
-    let n : len < 129 = ltb-true len 129 (f .1) in omega arith)
-
 standard-most : (p : NetworkPrefix) → standardRange p ≡ true → octetsInStandard p ≤ 18
 standard-most (V4 len a) e = omega (arith, leb-true len 32 e)
-standard-most (Ipv6Offset len off h l) e = omega (arith, offset-most len off e)
+standard-most (Ipv6Offset len off h l) e = omega (arith, fits-le len off e .1)
 standard-most (V6 len h l) e = omega arith
 standard-most (Ipv4Offset len off a) e = omega arith
 
@@ -229,6 +218,19 @@ standard-lone l start e =
     let k : 2 + widthOf o ≡ 1 + sizeIn (l .octets) (l .first + start) 1 = omega (arith, size-one (l .octets) (l .first + start)) in
     ap (λ (n : ℕ). pick (takes (op o v ∷ [])) n 0) k
     ∙ sym (ap₂ (λ x ys. pick (x && takes ys) (1 + sizeIn (l .octets) (l .first + start) 1) 0) e (ops-one (l .values) (l .octets) (l .first + start)))
+
+pub standard-pair : (l : Lent) (start : ℕ) → insideOf l start 2 ≡ true
+    → pairSize (getD (l .octets) (l .first + start) 0) (getD (l .values) (l .first + start) 0) (getD (l .octets) (l .first + start + 1) 0) (getD (l .values) (l .first + start + 1) 0) ≡ standardWeight l start 2
+unfolding standardWeight
+standard-pair l start e =
+    let at = l .first + start in
+    let o = getD (l .octets) at 0 in
+    let v = getD (l .values) at 0 in
+    let p = getD (l .octets) (at + 1) 0 in
+    let w = getD (l .values) (at + 1) 0 in
+    let k : 3 + widthOf o + widthOf p ≡ 1 + sizeIn (l .octets) at 2 = omega (arith, size-two (l .octets) at) in
+    ap (λ (n : ℕ). pick (takes (op o v ∷ op p w ∷ [])) n 0) k
+    ∙ sym (ap₂ (λ x ys. pick (x && takes ys) (1 + sizeIn (l .octets) at 2) 0) e (ops-two (l .values) (l .octets) at))
 
 -- ---- a prefix, by its tests
 

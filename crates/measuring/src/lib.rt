@@ -140,6 +140,18 @@ pub fn lone_list(values: &[u64], octets: &[u8], first: usize, start: usize) -> u
     listwriting::one_size(octets[at], values[at])
 }
 
+// And a list of two.
+pub fn pair_list(values: &[u64], octets: &[u8], first: usize, start: usize) -> usize
+    ensures { λ r. ⌜ r ≡ standardWeight (lent (now (values .entry)) (now (octets .entry)) first) start 2 ⌝ }
+{
+    if !inside(values, octets, first, start, 2) {
+        return 0;
+    }
+    let at = first + start;
+    let next = at + 1;
+    listwriting::pair_size(octets[at], values[at], octets[next], values[next])
+}
+
 // In the standard writing: a list. No entry point.
 pub fn standard_list(
     values: &[u64],

@@ -3,12 +3,14 @@ use mathlib.Core.Path.{_≡_, sym, ap, _∙_, subst}
 use mathlib.Core.List.{List}
 use mathlib.Core.Bool.{Bool, _&&_, and-true}
 use Prim.Native.Nat.{ℕ, _+_, _-_, _*_, _/_, _%_, _^_, _≤_, _<_}
-use native.Mathlib.Nat.{lt-of-lt-of-le, mod-eq-of-lt, div-eq-of-lt, zero-mul}
+use native.Mathlib.Nat.{lt-of-lt-of-le, mod-eq-of-lt, div-eq-of-lt, div-add-mod', sub-add-cancel, zero-mul}
 use native.Mathlib.Omega.{arith}
 use lib.Dec.{eqb}
 use lib.ListN.{take, drop}
-use lib.Pow.{pow-mono, shr-lt, shl-lt}
+use lib.Pow.{pow-mono, pow-pos, shr-lt, shl-lt, shl-shr}
 use borrow.Author.Tests.{eq-eqb, le-leb, lt-leb}
+use Rattle.ground.proofs.Cases.{eqb-iff}
+use Rattle.ground.proofs.Powers.{cut}
 use Rattle.wide.specs.Numbers.{num, wideOf}
 use Rattle.wide.specs.declared.Wide.{Wide}
 use Rattle.wide.proofs.Halves.{num-wideOf}
@@ -65,9 +67,28 @@ none-before width len a b =
     let z : firstBits width 0 a ≡ 0 = none-first width 0 a (subst (λ (j : ℕ). a < 2 ^ j) (sym w) b) in
     sym (ap (λ (t : Bool). eqb (firstBits width len a) a && t) (eq-eqb _ _ z) ∙ and-true (eqb (firstBits width len a) a))
 
--- a test of what was kept in halves
-pub kept-test : (v w : Wide) (n b : ℕ) → v ≡ wideOf (firstBits 128 n (num w)) → eqb (num v) b ≡ eqb (firstBits 128 n (num w)) b
-kept-test v w n b e = ap (λ (x : ℕ). eqb x b) (ap num e ∙ num-wideOf (firstBits 128 n (num w)))
+-- what is 0 after a move up was 0
+none-of : (x n : ℕ) → x * 2 ^ n ≡ 0 → x ≡ 0
+none-of x n z = sym (shl-shr x n) ∙ ap (λ (q : ℕ). q / 2 ^ n) z ∙ div-eq-of-lt (pow-pos n)
+
+-- an address is its first n bits if nothing is left of it past them, and has none set before a bit if nothing is left that far down
+pub none-past : (n a : ℕ) → n ≤ 128 → eqb (a * 2 ^ n % 2 ^ 128) 0 ≡ eqb (firstBits 128 n a) a
+none-past n a h =
+    let k = 128 - n in
+    let c : a * 2 ^ n % 2 ^ 128 ≡ a % 2 ^ k * 2 ^ n = subst (λ (w : ℕ). a * 2 ^ n % 2 ^ w ≡ a % 2 ^ k * 2 ^ n) (sub-add-cancel h) (cut a k n) in
+    let d : a / 2 ^ k * 2 ^ k + a % 2 ^ k ≡ a = div-add-mod' a (2 ^ k) in
+    eqb-iff (a * 2 ^ n % 2 ^ 128) 0 (firstBits 128 n a) a
+    (λ z. let r : a % 2 ^ k ≡ 0 = none-of (a % 2 ^ k) n (sym c ∙ z) in omega arith)
+    (λ z. let r : a % 2 ^ k ≡ 0 = omega arith in c ∙ ap (λ (q : ℕ). q * 2 ^ n) r ∙ zero-mul (2 ^ n))
+
+pub none-down : (n a : ℕ) → eqb (a / 2 ^ (128 - n)) 0 ≡ eqb (firstBits 128 n a) 0
+none-down n a =
+    let k = 128 - n in
+    eqb-iff (a / 2 ^ k) 0 (firstBits 128 n a) 0 (λ z. ap (λ (q : ℕ). q * 2 ^ k) z ∙ zero-mul (2 ^ k)) (λ z. none-of (a / 2 ^ k) k z)
+
+-- a test of a number in halves
+pub told-in : (w : Wide) (n b : ℕ) → w ≡ wideOf n → eqb (num w) b ≡ eqb n b
+told-in w n b e = ap (λ (x : ℕ). eqb x b) (ap num e ∙ num-wideOf n)
 
 -- the number that the octets of an extent with no offset spell
 pub flat-spelled : (s : List ℕ) (e : Extent) → e .offset ≡ 0 → valueOf (take (octetsOf (e .length)) (drop (e .from) s)) ≡ spelledAt s e

@@ -272,19 +272,19 @@ fn clean_ipv4(len: u8, address: u32) -> bool
     octets::keep_ipv4(address, len) == address
 }
 
-// Whether no bit of an address is set but those from offset to length.
+// Whether no bit of an address is set but those from offset to length: nothing is left of it past the length, nor before the offset.
 fn clean_ipv6(len: u8, off: u8, w: Wide) -> bool
+    requires { ⌜ (len ≤ 128) × (off ≤ 128) ⌝ }
     ensures { λ r. ⌜ r ≡ clean 128 len off (num w) ⌝ }
 {
-    let within = wide::same(octets::keep_ipv6(w, len), w);
+    let none = Wide { high: 0, low: 0 };
+    if !wide::same(wide::shl(w, len as u32), none) {
+        return false;
+    }
     if off == 0 {
-        return within;
+        return true;
     }
-    if within {
-        wide::same(octets::keep_ipv6(w, off), Wide { high: 0, low: 0 })
-    } else {
-        false
-    }
+    wide::same(wide::shr(w, (128 - off) as u32), none)
 }
 
 // Whether the standard writing of IPv6 takes an address with a length and an offset.

@@ -11,7 +11,7 @@ ghost use Rattle.stored.specs.Stored.{storedAt};
 ghost use Rattle.packets.specs.Packets.{packetOk, packetAt};
 ghost use Rattle.matching.specs.Rules.{ruleMatches};
 ghost use Rattle.measuring.specs.Bodies.{lent};
-ghost use Rattle.measuring.specs.Weights.{weightOf};
+ghost use Rattle.measuring.specs.Weights.{weightOf, standardWeight};
 ghost use Rattle.writing.specs.Writings.{bodyFrom};
 ghost use Rattle.verdicts.specs.Steps.{stepIn, stepOf, prefixStep, otherStep};
 ghost use Rattle.verdicts.specs.Verdicts.{accepted, wellFormed, judged, judgement, matchVerdict, rankVerdict, toldMatched, toldRanked};
@@ -62,6 +62,14 @@ fn no_step() -> Step
     }
 }
 
+// A list of many operators. It stands by itself, so that the compiler leaves it out of the walk and keeps that short.
+fn many_weight(values: &[u64], octets: &[u8], first: usize, start: usize, count: usize) -> usize
+    requires { ⌜ count ≤ 2047 ⌝ }
+    ensures { λ r. ⌜ r ≡ standardWeight (lent (now (values .entry)) (now (octets .entry)) first) start count ⌝ }
+{
+    measuring::standard_list(values, octets, first, start, count)
+}
+
 // How many octets a list adds to a body in a standard writing, 0 where it is not taken.
 fn list_weight(
     writing: Reading,
@@ -84,7 +92,10 @@ fn list_weight(
     if count == 1 {
         return measuring::lone_list(values, octets, first, start);
     }
-    measuring::standard_list(values, octets, first, start, count)
+    if count == 2 {
+        return measuring::pair_list(values, octets, first, start);
+    }
+    many_weight(values, octets, first, start, count)
 }
 
 fn list_step(

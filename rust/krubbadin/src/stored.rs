@@ -34,15 +34,25 @@ pub(crate) fn read_rule(
     input: &[u8],
 ) -> Result<(FlowSpecNlri, usize), Refusal> {
     let places = most_operators(input);
+    if places <= FEW {
+        let (mut values, mut octets) = ([MaybeUninit::uninit(); FEW], [MaybeUninit::uninit(); FEW]);
+        return read_into(standard, family, input, &mut values, &mut octets);
+    }
+    let (mut values, mut octets) = (Vec::with_capacity(places), Vec::with_capacity(places));
+    let (values, octets) = (values.spare_capacity_mut(), octets.spare_capacity_mut());
+    read_into(standard, family, input, values, octets)
+}
+
+/// The same with lists for its operators.
+#[inline]
+fn read_into(
+    standard: u8,
+    family: u8,
+    input: &[u8],
+    values: &mut [MaybeUninit<u64>],
+    octets: &mut [MaybeUninit<u8>],
+) -> Result<(FlowSpecNlri, usize), Refusal> {
     let mut words = MaybeUninit::uninit();
-    let mut few = ([MaybeUninit::uninit(); FEW], [MaybeUninit::uninit(); FEW]);
-    let mut many;
-    let (values, octets) = if places <= FEW {
-        (&mut few.0[..], &mut few.1[..])
-    } else {
-        many = (Vec::with_capacity(places), Vec::with_capacity(places));
-        (many.0.spare_capacity_mut(), many.1.spare_capacity_mut())
-    };
     let read = surface::read_anew(standard, family, input, &mut words, values, octets)?;
     Ok((rule_of(read.words, read.values, read.octets), read.used))
 }
@@ -56,7 +66,7 @@ pub(crate) fn check_rule(standard: u8, family: u8, input: &[u8]) -> Result<usize
 /// The rule that words name, whose operators begin where the lists do.
 #[inline]
 fn rule_of(words: &[u64], values: &[u64], octets: &[u8]) -> FlowSpecNlri {
-    let count = words[COUNT] as usize;
+    let count = (words[COUNT] as usize).min(COMPONENTS);
     let mut components = Vec::with_capacity(count);
     for group in words[..4 * count].chunks_exact(4) {
         push_component(group, values, octets, &mut components);
@@ -322,8 +332,8 @@ fn prefix_words(kind: u64, prefix: &NetworkPrefix, offset: Option<u8>) -> [u64; 
 
 /// Adds the component that four words name, which a reading wrote, or which were put in from a component, where there is room for it.
 ///
-/// Each kind is pushed by itself, right after the room is seen to, so that a component is made where it stands and not copied there: the
-/// copy waits for what was just written, some nanoseconds each.
+/// It is pushed right after the room is seen to, so that it is made where it stands and not copied there: the copy waits for what was just
+/// written, some nanoseconds each.
 #[inline]
 fn push_component(
     group: &[u64],
@@ -344,30 +354,32 @@ fn push_component(
             _ => components.push(SourceIpv6Prefix { offset, prefix }),
         };
     }
-    let (start, count) = (group[1] as usize, group[2] as usize);
+    // Both are small: of 32 bits, no sum and no size of a list is too large for a word, and none is tested for it.
+    let (start, count) = (group[1] as u32 as usize, group[2] as u32 as usize);
     let places = start..start + count;
-    let (values, octets) = (&values[places.clone()], &octets[places]);
+    let values = &values[places.clone()];
+    let octets = &octets[places][..values.len()];
     if matches!(kind, 9 | 12) {
         let list = operators(values, octets, bitmask_of);
         has_room(components);
-        return match kind {
-            9 => components.push(TcpFlags(list)),
-            _ => components.push(Fragment(list)),
-        };
+        return components.push(match kind {
+            9 => TcpFlags(list),
+            _ => Fragment(list),
+        });
     }
     let list = operators(values, octets, numeric_of);
     has_room(components);
-    match kind {
-        3 => components.push(IpProtocol(list)),
-        4 => components.push(Port(list)),
-        5 => components.push(DestinationPort(list)),
-        6 => components.push(SourcePort(list)),
-        7 => components.push(IcmpType(list)),
-        8 => components.push(IcmpCode(list)),
-        10 => components.push(PacketLength(list)),
-        11 => components.push(Dscp(list)),
-        _ => components.push(FlowLabel(list)),
-    }
+    components.push(match kind {
+        3 => IpProtocol(list),
+        4 => Port(list),
+        5 => DestinationPort(list),
+        6 => SourcePort(list),
+        7 => IcmpType(list),
+        8 => IcmpCode(list),
+        10 => PacketLength(list),
+        11 => Dscp(list),
+        _ => FlowLabel(list),
+    });
 }
 
 /// That a push does not have to grow the list.
@@ -397,7 +409,46 @@ fn operators<T>(values: &[u64], octets: &[u8], operator: impl Fn(u8, u64) -> T) 
 }
 
 /// The operator of an octet without reserved bits, as a reading leaves it.
+#[inline]
 fn numeric_of(octet: u8, value: u64) -> NumericOperator {
+    NumericOperator {
+        value,
+        ..NUMERIC[usize::from(octet)]
+    }
+}
+
+#[inline]
+fn bitmask_of(octet: u8, bitmask: u64) -> BitmaskOperator {
+    BitmaskOperator {
+        bitmask,
+        ..BITMASK[usize::from(octet)]
+    }
+}
+
+/// The operators of all octets, with the value 0: one load, where to take an octet apart is a dozen steps.
+static NUMERIC: [NumericOperator; 256] = {
+    const NONE: NumericOperator = numeric_of_octet(0);
+    let mut table = [NONE; 256];
+    let mut octet = 0;
+    while octet < 256 {
+        table[octet] = numeric_of_octet(octet as u8);
+        octet += 1;
+    }
+    table
+};
+
+static BITMASK: [BitmaskOperator; 256] = {
+    const NONE: BitmaskOperator = bitmask_of_octet(0);
+    let mut table = [NONE; 256];
+    let mut octet = 0;
+    while octet < 256 {
+        table[octet] = bitmask_of_octet(octet as u8);
+        octet += 1;
+    }
+    table
+};
+
+const fn numeric_of_octet(octet: u8) -> NumericOperator {
     NumericOperator {
         end_of_list: octet & 0x80 != 0,
         and_with_next: octet & 0x40 != 0,
@@ -405,18 +456,18 @@ fn numeric_of(octet: u8, value: u64) -> NumericOperator {
         less_than: octet & 0x04 != 0,
         greater_than: octet & 0x02 != 0,
         equal: octet & 0x01 != 0,
-        value,
+        value: 0,
     }
 }
 
-fn bitmask_of(octet: u8, bitmask: u64) -> BitmaskOperator {
+const fn bitmask_of_octet(octet: u8) -> BitmaskOperator {
     BitmaskOperator {
         end_of_list: octet & 0x80 != 0,
         and_with_next: octet & 0x40 != 0,
         value_length: 1 << (octet >> 4 & 3),
         not: octet & 0x02 != 0,
         match_flag: octet & 0x01 != 0,
-        bitmask,
+        bitmask: 0,
     }
 }
 

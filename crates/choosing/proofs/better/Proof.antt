@@ -1,12 +1,8 @@
 -- `choosing::better` meets its contract: the rule at the place is well-formed, and so is the best so far.
-use Prim.Native.Nat.{ℕ, _*_}
-use mathlib.Core.Path.{_≡_}
-use mathlib.Core.Bool.{true}
-use borrow.Author.Needs.{needs}
-use Rattle.ranking.specs.Ranks.{Rankable}
-use Rattle.verdicts.proofs.WellFormed.{rankable}
-use Rattle.choosing.specs.Choosing.{Table, table, formedAt}
-use Rattle.choosing.proofs.Passes.{not-met, first-met, by-rank}
+use native.Mathlib.Omega.{arith}
+use mathlib.Core.Path.{_∙_}
+use Rattle.choosing.specs.Choosing.{Table, table}
+use Rattle.choosing.proofs.Passes.{not-met, first-met, later-met}
 use Rattle.choosing.proofs.better.Statement.{statement}
 use Rattle.choosing.proofs.better.Tie as tie
 
@@ -24,14 +20,19 @@ returns-2 c =
     let s = e .before .before .before .before in
     first-met (tableOf s) (s .args .n) (s .args .best) (s .args .i) (s .args .met) (e .if1 .left) (c .if2 .taken)
 
--- a well-formed rule is one that ranking takes
-ready : (s : tie.Start) (j : ℕ) → formedAt (tableOf s) j ≡ true → Rankable (s .args .words .now) (64 * j) (s .args .values .now) (s .args .octets .now)
-ready s j h = rankable (s .args .words .now) (s .args .values .now) (s .args .octets .now) (64 * j) h
-
-compare-rules-requires : tie.Need-compare-rules-requires
-compare-rules-requires c κs =
+ranked-requires : tie.Need-ranked-requires
+ranked-requires c κs =
     let s = c .before .before .before .before .before in
-    (ready s (s .args .i) (s .pre .0), ready s (s .args .best) (s .pre .1 .0 (c .if2 .left)))
+    let l = c .if2 .left in
+    let p = s .pre .1 .1 in
+    (s .pre .0, (s .pre .1 .0 l, (omega (arith, p .0, p .1), omega (arith, p .0))))
+
+returns-3 : tie.Need-returns-3
+returns-3 c =
+    let d = c .before in
+    let e = d .before in
+    let s = e .before .before .before .before in
+    c .ranked .ensures ∙ later-met (tableOf s) (s .args .n) (s .args .best) (s .args .i) (s .args .met) (e .if1 .left) (d .if2 .left)
 
 pub better-spec : {M : Type 1} → statement M
 better-spec =
@@ -39,12 +40,5 @@ better-spec =
     (tie.spec
     returns
     returns-2
-    (λ c. search needs)
-    (λ c. search needs)
-    compare-rules-requires
-    (λ c. search needs)
-    (λ c. search needs)
-    (λ c. search needs)
-    (λ c. let k = c .before .before in let d = k .before in let e = d .before in let s = e .before .before .before .before in by-rank (tableOf s) (s .args .n) (s .args .best) (s .args .i) (s .args .met) (e .if1 .left) (d .if2 .left) _ _ (k .compare-rules .ensures) (c .enum-told .given .1))
-    (λ c. let k = c .before .before in let d = k .before in let e = d .before in let s = e .before .before .before .before in by-rank (tableOf s) (s .args .n) (s .args .best) (s .args .i) (s .args .met) (e .if1 .left) (d .if2 .left) _ _ (k .compare-rules .ensures) (c .enum-told2 .given .1))
-    (λ c. let k = c .before .before in let d = k .before in let e = d .before in let s = e .before .before .before .before in by-rank (tableOf s) (s .args .n) (s .args .best) (s .args .i) (s .args .met) (e .if1 .left) (d .if2 .left) _ _ (k .compare-rules .ensures) (c .enum-told3 .given .1)))
+    ranked-requires
+    returns-3)

@@ -22,6 +22,7 @@ returns c =
     sym (weight-list-not (a .writing) (lent (a .values .now) (a .octets .now) (a .first)) (a .left) (a .previous) (a .tag) (a .start) (a .count)
     (told-false (m .may-follow .ensures) (c .if1 .taken)))
 
+-- what the list adds, by its number of operators
 returns-2 : tie.Need-returns-2
 returns-2 c =
     let t = c .before in
@@ -33,23 +34,34 @@ returns-2 c =
     c .lone-list .ensures ∙ ap (λ (n : ℕ). standardWeight l (a .start) n) (sym (t .if2 .taken))
     ∙ sym (weight-standard (a .writing) l (a .left) (a .previous) (a .tag) (a .start) (a .count) (not-plain (a .writing) (g .pre .0)) (told-true (m .may-follow .ensures) (e .if1 .left)))
 
-standard-list-requires : tie.Need-standard-list-requires
-standard-list-requires c κs =
-    let e = c .before in
+returns-3 : tie.Need-returns-3
+returns-3 c =
+    let t = c .before in
+    let e = t .before .before in
+    let m = e .before in
+    let g = m .before .before .before in
+    let a = g .args in
+    let l = lent (a .values .now) (a .octets .now) (a .first) in
+    c .pair-list .ensures ∙ ap (λ (n : ℕ). standardWeight l (a .start) n) (sym (t .if3 .taken))
+    ∙ sym (weight-standard (a .writing) l (a .left) (a .previous) (a .tag) (a .start) (a .count) (not-plain (a .writing) (g .pre .0)) (told-true (m .may-follow .ensures) (e .if1 .left)))
+
+many-weight-requires : tie.Need-many-weight-requires
+many-weight-requires c κs =
+    let e = c .before .before in
     let m = e .before in
     let g = m .before .before .before in
     let a = g .args in
     let b = both (leb (a .count) (a .left)) (risesIn (a .writing) (a .previous) (a .tag)) (told-true (m .may-follow .ensures) (e .if1 .left)) in
     omega (arith, leb-true (a .count) (a .left) (b .0), g .pre .1)
 
-returns-3 : tie.Need-returns-3
-returns-3 c =
-    let e = c .before .before in
+returns-4 : tie.Need-returns-4
+returns-4 c =
+    let e = c .before .before .before in
     let m = e .before in
     let g = m .before .before .before in
     let a = g .args in
     let l = lent (a .values .now) (a .octets .now) (a .first) in
-    c .standard-list .ensures
+    c .many-weight .ensures
     ∙ sym (weight-standard (a .writing) l (a .left) (a .previous) (a .tag) (a .start) (a .count) (not-plain (a .writing) (g .pre .0)) (told-true (m .may-follow .ensures) (e .if1 .left)))
 
 pub list-weight-spec : {M : Type 1} → statement M
@@ -60,5 +72,7 @@ list-weight-spec =
     returns
     (λ c κs. search needs)
     returns-2
-    standard-list-requires
-    returns-3)
+    (λ c κs. search needs)
+    returns-3
+    many-weight-requires
+    returns-4)

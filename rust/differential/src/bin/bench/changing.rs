@@ -3,7 +3,7 @@
 
 use crate::coding::ORIGINAL;
 use crate::deciding::{table, RUST};
-use crate::timing::{heading, opaque, repeat, row, times, Bar, Times};
+use crate::timing::{opaque, repeat, Bar, Sheet, Times};
 use differential::compare::Comparison;
 use differential::stored::WORDS;
 use differential::{archive, packets, wordwise, Form, MOST_OPERATORS};
@@ -21,34 +21,45 @@ const PARSE: f64 = 0.45;
 const CHOOSE: f64 = 0.8;
 
 /// Times all; nothing where the answers differ.
-pub fn bench(bars: &mut Vec<Bar>) -> bool {
-    let mut random = Random::new(0xF15);
-    let inputs: Vec<Vec<u8>> = (0..INPUTS).map(|_| framed(&body(&mut random))).collect();
+pub fn bench(sheet: &mut Sheet) -> bool {
+    let inputs = inputs();
+    let mut random = Random::new(0xF16);
     let rules: Vec<Flow> = (0..RULES).map(|_| flow(&body(&mut random))).collect();
     let packets: Vec<Packet> = (0..INPUTS).map(|_| packet(&rules, &mut random)).collect();
     if !answers_agree(&inputs, &rules, &packets) {
         return false;
     }
-    heading("octets", ["proved", "original"]);
-    let octets: usize = inputs.iter().map(Vec::len).sum();
-    let name = format!("{INPUTS} rules in turn, octets of one");
-    let ratio = row("parse", &name, octets / INPUTS, parse_times(&inputs));
-    bars.push(bar(
-        format!("parse, {INPUTS} rules in turn"),
-        ratio,
-        ORIGINAL,
-        PARSE,
-    ));
-    heading("rules", ["proved", "Rust", "parsed"]);
+    sheet.heading("octets", ["proved", "original"]);
+    let times = parse_times(&inputs, sheet);
+    let ratio = sheet.row("parse", &in_turn(), octets_of_one(&inputs), times);
+    sheet
+        .bars
+        .push(bar(format!("parse, {}", in_turn()), ratio, ORIGINAL, PARSE));
+    sheet.heading("rules", ["proved", "Rust", "parsed"]);
     let name = format!("{INPUTS} packets in turn");
-    let ratio = row("choose", &name, RULES, choose_times(&rules, &packets));
-    bars.push(bar(
+    let times = choose_times(&rules, &packets, sheet);
+    let ratio = sheet.row("choose", &name, RULES, times);
+    sheet.bars.push(bar(
         format!("choose, {name}, of {RULES}"),
         ratio,
         RUST,
         CHOOSE,
     ));
     true
+}
+
+/// The rules that are read in turn, what they are called, and how many octets one has on average.
+pub fn inputs() -> Vec<Vec<u8>> {
+    let mut random = Random::new(0xF15);
+    (0..INPUTS).map(|_| framed(&body(&mut random))).collect()
+}
+
+pub fn in_turn() -> String {
+    format!("{INPUTS} rules in turn")
+}
+
+pub fn octets_of_one(inputs: &[Vec<u8>]) -> usize {
+    inputs.iter().map(Vec::len).sum::<usize>() / inputs.len()
 }
 
 fn bar(what: String, figure: f64, of: &str, most: f64) -> Bar {
@@ -174,12 +185,12 @@ fn answers_agree(inputs: &[Vec<u8>], rules: &[Flow], packets: &[Packet]) -> bool
     comparison.differ == 0
 }
 
-fn parse_times(inputs: &[Vec<u8>]) -> Times<2> {
+fn parse_times(inputs: &[Vec<u8>], sheet: &mut Sheet) -> Times<2> {
     let (mut words, mut values) = ([0; WORDS], [0; MOST_OPERATORS]);
     let mut octets = [0; MOST_OPERATORS];
     let mut ours = inputs.iter().cycle();
     let mut theirs = inputs.iter().cycle();
-    times([
+    sheet.times([
         &mut |calls| {
             repeat(calls, || {
                 let input = ours.next().map_or(&[][..], |input| opaque(&input[..]));
@@ -197,12 +208,12 @@ fn parse_times(inputs: &[Vec<u8>]) -> Times<2> {
     ])
 }
 
-fn choose_times(rules: &[Flow], packets: &[Packet]) -> Times<3> {
+fn choose_times(rules: &[Flow], packets: &[Packet], sheet: &mut Sheet) -> Times<3> {
     let table = &table(rules);
     let words: Vec<[u64; packets::WORDS]> = packets.iter().map(packets::words).collect();
     let (mut ours, mut theirs) = (words.iter().cycle(), words.iter().cycle());
     let mut parsed = packets.iter().cycle();
-    times([
+    sheet.times([
         &mut |calls| {
             repeat(calls, || {
                 let words = ours.next().map_or(&[][..], |words| opaque(&words[..]));

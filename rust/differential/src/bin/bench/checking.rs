@@ -2,7 +2,7 @@
 //! answers, by the plain and by the standard reading.
 
 use crate::coding::{ports, FIVE, FIVE_OCTETS, PORTS, REFUSED};
-use crate::timing::{heading, opaque, repeat, row, times, Bar, Times};
+use crate::timing::{opaque, repeat, Bar, Sheet, Times};
 use differential::compare::Comparison;
 use differential::{archive, validator, Form};
 use inputs::{framed, octets};
@@ -22,7 +22,7 @@ struct Case {
 }
 
 /// Times all; nothing where the answers differ.
-pub fn bench(bars: &mut Vec<Bar>) -> bool {
+pub fn bench(sheet: &mut Sheet) -> bool {
     let cases = cases();
     let mut comparison = Comparison::new();
     for case in &cases {
@@ -31,10 +31,11 @@ pub fn bench(bars: &mut Vec<Bar>) -> bool {
     if comparison.differ != 0 {
         return false;
     }
-    heading("octets", ["proved", "Rust"]);
+    sheet.heading("octets", ["proved", "Rust"]);
     for case in &cases {
-        let ratio = row("check", &case.name, case.input.len(), check_times(case));
-        bars.extend(case.most.map(|most| Bar {
+        let times = check_times(case, sheet);
+        let ratio = sheet.row("check", &case.name, case.input.len(), times);
+        sheet.bars.extend(case.most.map(|most| Bar {
             what: format!("check, {}", case.name),
             figure: ratio,
             of: "the Rust validator's time".to_string(),
@@ -69,9 +70,9 @@ fn cases() -> Vec<Case> {
     cases
 }
 
-fn check_times(case: &Case) -> Times<2> {
+fn check_times(case: &Case, sheet: &mut Sheet) -> Times<2> {
     let (form, input) = (case.form, &case.input[..]);
-    times([
+    sheet.times([
         &mut |calls| {
             let answer = || archive::check(form, opaque(input));
             repeat(calls, || opaque(&answer()).status != 0)

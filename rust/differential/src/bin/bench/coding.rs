@@ -1,6 +1,6 @@
 //! Readings and writings: the plain ones beside the original Rust, the standard ones beside the plain.
 
-use crate::timing::{heading, opaque, repeat, row, times, Bar, Side, Times};
+use crate::timing::{opaque, repeat, Bar, Sheet, Side, Times};
 use differential::compare::Comparison;
 use differential::stored::{Stored, WORDS};
 use differential::{archive, peers, Form, LONGEST_BODY, LONGEST_INPUT, MOST_OPERATORS};
@@ -44,56 +44,58 @@ struct Case {
 }
 
 /// Times all; nothing where the answers differ.
-pub fn bench(bars: &mut Vec<Bar>) -> bool {
+pub fn bench(sheet: &mut Sheet) -> bool {
     let accepted = accepted_cases();
     let refused = refused_cases();
     if !answers_agree(accepted.iter().chain(&refused)) {
         return false;
     }
-    plain(&accepted, &refused, bars);
-    standard(&accepted, &refused, bars);
+    plain(&accepted, &refused, sheet);
+    standard(&accepted, &refused, sheet);
     true
 }
 
-fn plain(accepted: &[Case], refused: &[Case], bars: &mut Vec<Bar>) {
-    heading("octets", ["proved", "original"]);
+fn plain(accepted: &[Case], refused: &[Case], sheet: &mut Sheet) {
+    sheet.heading("octets", ["proved", "original"]);
     for case in accepted.iter().chain(refused) {
-        let ratio = row("parse", case.name, case.input.len(), parse_times(case));
+        let times = parse_times(case, sheet);
+        let ratio = sheet.row("parse", case.name, case.input.len(), times);
         let bar = |most| bar("parse", case, ratio, ORIGINAL, most);
-        bars.extend(case.parse.map(bar));
+        sheet.bars.extend(case.parse.map(bar));
     }
     for case in accepted {
-        let ratio = row("encode", case.name, case.input.len(), encode_times(case));
+        let times = encode_times(case, sheet);
+        let ratio = sheet.row("encode", case.name, case.input.len(), times);
         let bar = |most| bar("encode", case, ratio, ORIGINAL, most);
-        bars.extend(case.encode.map(bar));
+        sheet.bars.extend(case.encode.map(bar));
     }
     let lists = [MANY_PORTS, PORTS].map(|name| {
         let case = accepted.iter().find(|case| case.name == name);
         &case.expect("both lists are among the cases").input[..]
     });
     let [mut long, mut short] = lists.map(|input| reading(Form::Plain, input));
-    bars.push(growth("parse", lists, [&mut long, &mut short]));
+    growth("parse", lists, [&mut long, &mut short], sheet);
     let [mut long, mut short] = lists.map(|input| writing(Form::Plain, input));
-    bars.push(growth("encode", lists, [&mut long, &mut short]));
+    growth("encode", lists, [&mut long, &mut short], sheet);
 }
 
 /// On the same inputs, but for the one that the standard reading accepts.
-fn standard(accepted: &[Case], refused: &[Case], bars: &mut Vec<Bar>) {
-    heading("octets", ["standard", "plain"]);
+fn standard(accepted: &[Case], refused: &[Case], sheet: &mut Sheet) {
+    sheet.heading("octets", ["standard", "plain"]);
     let is_refused = |case: &&Case| standard::read(4, &case.input).is_err();
     for case in accepted.iter().chain(refused.iter().filter(is_refused)) {
         let mut standard = reading(FAMILY, &case.input);
         let mut plain = reading(Form::Plain, &case.input);
-        let times = times([&mut standard, &mut plain]);
-        let ratio = row("read", case.name, case.input.len(), times);
-        bars.push(bar("read", case, ratio, PLAIN, STANDARD));
+        let times = sheet.times([&mut standard, &mut plain]);
+        let ratio = sheet.row("read", case.name, case.input.len(), times);
+        sheet.bars.push(bar("read", case, ratio, PLAIN, STANDARD));
     }
     for case in accepted {
         let mut standard = writing(FAMILY, &case.input);
         let mut plain = writing(Form::Plain, &case.input);
-        let times = times([&mut standard, &mut plain]);
-        let ratio = row("write", case.name, case.input.len(), times);
-        bars.push(bar("write", case, ratio, PLAIN, STANDARD));
+        let times = sheet.times([&mut standard, &mut plain]);
+        let ratio = sheet.row("write", case.name, case.input.len(), times);
+        sheet.bars.push(bar("write", case, ratio, PLAIN, STANDARD));
     }
 }
 
@@ -231,33 +233,34 @@ fn writing(form: Form, input: &[u8]) -> impl FnMut(u64) -> u64 {
     }
 }
 
-fn parse_times(case: &Case) -> Times<2> {
+fn parse_times(case: &Case, sheet: &mut Sheet) -> Times<2> {
     let input = &case.input[..];
     let mut original = |calls| {
         repeat(calls, || {
             opaque(&parse_flowspec_nlri(opaque(input))).is_err()
         })
     };
-    times([&mut reading(Form::Plain, input), &mut original])
+    sheet.times([&mut reading(Form::Plain, input), &mut original])
 }
 
-fn encode_times(case: &Case) -> Times<2> {
+fn encode_times(case: &Case, sheet: &mut Sheet) -> Times<2> {
     let rule = parse_flowspec_nlri(&case.input).expect("these cases are accepted");
     let mut original = |calls| {
         repeat(calls, || {
             opaque(&encode_flowspec_nlri(opaque(&rule))).is_err()
         })
     };
-    times([&mut writing(Form::Plain, &case.input), &mut original])
+    sheet.times([&mut writing(Form::Plain, &case.input), &mut original])
 }
 
 /// The proved code's time per octet of the long port list, by that of the short one; the two in turns.
-fn growth(call: &str, lists: [&[u8]; 2], sides: [Side; 2]) -> Bar {
+fn growth(call: &str, lists: [&[u8]; 2], sides: [Side; 2], sheet: &mut Sheet) {
     let [long, short] = lists.map(|list| list.len() as f64);
-    Bar {
+    let ratio = sheet.times(sides).ratio();
+    sheet.bars.push(Bar {
         what: format!("{call}, {MANY_PORTS}"),
-        figure: times(sides).ratio * short / long,
+        figure: ratio * short / long,
         of: format!("the time per octet of the {PORTS}"),
         most: 1.0,
-    }
+    });
 }

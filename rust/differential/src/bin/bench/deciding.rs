@@ -4,7 +4,7 @@
 //! The bar is the first's time.
 
 use crate::coding::{ports, FIVE_OCTETS};
-use crate::timing::{heading, opaque, repeat, row, times, Bar, Times};
+use crate::timing::{opaque, repeat, Bar, Sheet, Times};
 use differential::compare::Comparison;
 use differential::stored::Stored;
 use differential::{archive, packets, tables, wordwise};
@@ -32,29 +32,31 @@ pub struct Case {
 }
 
 /// Times all; nothing where the answers differ.
-pub fn bench(bars: &mut Vec<Bar>) -> bool {
+pub fn bench(sheet: &mut Sheet) -> bool {
     let pairs = pairs();
     let cases: Vec<Case> = RULES.into_iter().flat_map(cases).collect();
     let lists = OPERATORS.map(|count| case_of_lists(8, count));
     if !answers_agree(&pairs, cases.iter().chain(&lists)) {
         return false;
     }
-    heading("octets", ["proved", "Rust", "parsed"]);
+    sheet.heading("octets", ["proved", "Rust", "parsed"]);
     for (name, one, other) in &pairs {
         let octets = standard::write(one.family, &one.rule).expect("these are good");
-        let ratio = row("rank", name, octets.len(), rank_times(one, other));
-        bars.push(Bar {
+        let times = rank_times(one, other, sheet);
+        let ratio = sheet.row("rank", name, octets.len(), times);
+        sheet.bars.push(Bar {
             what: format!("rank, {name}"),
             figure: ratio,
             of: RUST.to_string(),
             most: RANK,
         });
     }
-    heading("rules", ["proved", "Rust", "parsed"]);
+    sheet.heading("rules", ["proved", "Rust", "parsed"]);
     for case in cases.iter().chain(&lists) {
         let (name, count) = (&case.name, case.rules.len());
-        let ratio = row("choose", name, count, choose_times(case));
-        bars.push(Bar {
+        let times = choose_times(case, sheet);
+        let ratio = sheet.row("choose", name, count, times);
+        sheet.bars.push(Bar {
             what: format!("choose, {name}, of {count}"),
             figure: ratio,
             of: RUST.to_string(),
@@ -65,22 +67,22 @@ pub fn bench(bars: &mut Vec<Bar>) -> bool {
     let (of_8, of_64) = (&cases[each..2 * each], &cases[2 * each..]);
     for (less, more) in of_8.iter().zip(of_64) {
         let what = format!("{}, 64 rules", more.name);
-        bars.push(growth(&what, "8 rules", less, more));
+        growth(&what, "8 rules", less, more, sheet);
     }
     let [less, more] = &lists;
-    bars.push(growth("lists of 64 operators", "lists of 8", less, more));
+    growth("lists of 64 operators", "lists of 8", less, more, sheet);
     true
 }
 
 /// The time of eight times as much, by eight times the time; the two in turns.
-fn growth(what: &str, of: &str, less: &Case, more: &Case) -> Bar {
-    let times = times([&mut proved(more), &mut proved(less)]);
-    Bar {
+fn growth(what: &str, of: &str, less: &Case, more: &Case, sheet: &mut Sheet) {
+    let times = sheet.times([&mut proved(more), &mut proved(less)]);
+    sheet.bars.push(Bar {
         what: format!("choose, {what}"),
-        figure: times.ratio / 8.0,
+        figure: times.ratio() / 8.0,
         of: format!("8 times the time of {of}"),
         most: GROWTH,
-    }
+    });
 }
 
 fn flow(family: u8, body: &[u8]) -> Flow {
@@ -217,9 +219,9 @@ fn answers_agree<'a>(pairs: &[(&str, Flow, Flow)], cases: impl Iterator<Item = &
     comparison.differ == 0
 }
 
-fn rank_times(one: &Flow, other: &Flow) -> Times<3> {
+fn rank_times(one: &Flow, other: &Flow, sheet: &mut Sheet) -> Times<3> {
     let (ours, theirs) = (&stored(one), &stored(other));
-    times([
+    sheet.times([
         &mut |calls| {
             let answer = || archive::rank(opaque(ours), opaque(theirs));
             repeat(calls, || opaque(&answer()).status != 0)
@@ -244,10 +246,10 @@ fn proved(case: &Case) -> impl FnMut(u64) -> u64 {
     }
 }
 
-fn choose_times(case: &Case) -> Times<3> {
+fn choose_times(case: &Case, sheet: &mut Sheet) -> Times<3> {
     let (table, words) = (&table(&case.rules), &packets::words(&case.packet));
     let (rules, packet) = (&case.rules[..], &case.packet);
-    times([
+    sheet.times([
         &mut proved(case),
         &mut |calls| {
             let answer = || wordwise::choose(opaque(table), opaque(words));

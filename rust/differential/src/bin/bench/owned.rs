@@ -1,16 +1,18 @@
 //! The safe crate's calls on rules that it owns, as a program that changed its `use` line makes them:
 //! its parsing beside the original's, its choosing beside the same choice in Rust over parsed rules.
 
+use crate::changing::{self, in_turn, octets_of_one};
 use crate::coding::{ports, FIVE, FIVE_OCTETS, ORIGINAL, PORTS, SEVEN, SEVEN_OCTETS};
 use crate::deciding::{self, cases};
-use crate::timing::{heading, opaque, repeat, row, times, Bar, Times};
+use crate::timing::{opaque, repeat, Bar, Sheet, Times};
 use inputs::{framed, octets};
 use krubbadin::{Family, Table};
 use oracle::flowspec::parse_flowspec_nlri;
 use standard::{direct, Packet};
 use std::net::{IpAddr, Ipv4Addr, Ipv6Addr};
 
-/// At most so much of the original's time.
+/// At most so much of the original's time. A short rule has no bar: half of either side's time goes to
+/// the same allocations.
 const PARSE: f64 = 0.8;
 
 /// How many rules there are to choose from.
@@ -24,30 +26,34 @@ struct Choice {
 }
 
 /// Times all; nothing where the answers differ.
-pub fn bench(bars: &mut Vec<Bar>) -> bool {
+pub fn bench(sheet: &mut Sheet) -> bool {
     let inputs = [
-        (SEVEN, octets(SEVEN_OCTETS)),
-        (FIVE, octets(FIVE_OCTETS)),
-        (PORTS, framed(&ports(200))),
+        (SEVEN.to_string(), vec![octets(SEVEN_OCTETS)], None),
+        (FIVE.to_string(), vec![octets(FIVE_OCTETS)], Some(PARSE)),
+        (PORTS.to_string(), vec![framed(&ports(200))], Some(PARSE)),
+        (in_turn(), changing::inputs(), None),
     ];
     let choices: Vec<Choice> = RULES.into_iter().flat_map(cases).map(choice).collect();
-    if !inputs.iter().all(|(_, input)| same_rule(input)) || !choices.iter().all(same_choice) {
+    let mut rules = inputs.iter().flat_map(|(_, inputs, _)| inputs);
+    if !rules.all(|input| same_rule(input)) || !choices.iter().all(same_choice) {
         return false;
     }
-    heading("octets", ["the crate", "original"]);
-    for (name, input) in &inputs {
-        let ratio = row("parse", name, input.len(), parse_times(input));
-        bars.push(Bar {
+    sheet.heading("octets", ["the crate", "original"]);
+    for (name, inputs, most) in &inputs {
+        let times = parse_times(inputs, sheet);
+        let ratio = sheet.row("parse", name, octets_of_one(inputs), times);
+        sheet.bars.extend(most.map(|most| Bar {
             what: format!("the crate's parse, {name}"),
             figure: ratio,
             of: ORIGINAL.to_string(),
-            most: PARSE,
-        });
+            most,
+        }));
     }
-    heading("rules", ["the crate", "parsed"]);
+    sheet.heading("rules", ["the crate", "parsed"]);
     for choice in &choices {
         let (name, count) = (&choice.case.name, choice.case.rules.len());
-        row("choose", name, count, choose_times(choice));
+        let times = choose_times(choice, sheet);
+        sheet.row("choose", name, count, times);
     }
     true
 }
@@ -99,25 +105,28 @@ fn same_choice(choice: &Choice) -> bool {
     ours.ok() == theirs.ok()
 }
 
-fn parse_times(input: &[u8]) -> Times<2> {
-    times([
+fn parse_times(inputs: &[Vec<u8>], sheet: &mut Sheet) -> Times<2> {
+    let (mut ours, mut theirs) = (inputs.iter().cycle(), inputs.iter().cycle());
+    sheet.times([
         &mut |calls| {
             repeat(calls, || {
-                opaque(&krubbadin::parse_flowspec_nlri(opaque(input))).is_err()
+                let input = ours.next().map_or(&[][..], |input| opaque(&input[..]));
+                opaque(&krubbadin::parse_flowspec_nlri(input)).is_err()
             })
         },
         &mut |calls| {
             repeat(calls, || {
-                opaque(&parse_flowspec_nlri(opaque(input))).is_err()
+                let input = theirs.next().map_or(&[][..], |input| opaque(&input[..]));
+                opaque(&parse_flowspec_nlri(input)).is_err()
             })
         },
     ])
 }
 
-fn choose_times(choice: &Choice) -> Times<2> {
+fn choose_times(choice: &Choice, sheet: &mut Sheet) -> Times<2> {
     let (table, packet) = (&choice.table, &choice.packet);
     let case = &choice.case;
-    times([
+    sheet.times([
         &mut |calls| {
             let answer = || krubbadin::choose(opaque(table), opaque(packet));
             repeat(calls, || opaque(&answer()).is_err())

@@ -1,44 +1,123 @@
-//! Timing two sides in turns, and judging a figure by a bar.
+//! Timing two sides in turns, in rounds over all that is timed, and judging a figure by a bar.
 
+use std::fmt::Write;
 use std::ptr;
 use std::time::{Duration, Instant};
 
-/// The turns that each side has, and how long one lasts at least.
-pub const TURNS: usize = 400;
+/// The rounds, how many of them count, the turns that each side has in one, and how long a turn lasts
+/// at least.
+pub const ROUNDS: usize = 21;
+pub const COUNTED: usize = 7;
+pub const TURNS: usize = 20;
 pub const TURN: Duration = Duration::from_millis(1);
 
 /// A side makes so many calls and tells how many were refused, so that no answer goes unused.
 pub type Side<'a> = &'a mut dyn FnMut(u64) -> u64;
 
-/// What the turns of some sides tell.
-pub struct Times<const SIDES: usize> {
-    /// The best time of a call on each side, in nanoseconds.
-    pub best: [f64; SIDES],
+/// What the rounds tell of some sides: the time of a call on each, in nanoseconds.
+pub struct Times<const SIDES: usize>([f64; SIDES]);
+
+impl<const SIDES: usize> Times<SIDES> {
     /// The first side's time by the second's.
-    pub ratio: f64,
+    pub fn ratio(&self) -> f64 {
+        ratio(&self.0)
+    }
 }
 
-/// Times the sides in turns, of which the first two go first by turns.
-pub fn times<const SIDES: usize>(mut sides: [Side; SIDES]) -> Times<SIDES> {
+/// What the rounds have timed. Every round times the same in the same order.
+#[derive(Default)]
+pub struct Sheet {
+    /// In that order, the best times of the sides in each round so far, the fastest rounds first; and
+    /// where this round is.
+    timed: Vec<Vec<Vec<f64>>>,
+    next: usize,
+    /// The tables and the bars, as this round has them.
+    tables: String,
+    pub bars: Vec<Bar>,
+}
+
+impl Sheet {
+    /// Before a round.
+    pub fn begin(&mut self) {
+        self.next = 0;
+        self.tables.clear();
+        self.bars.clear();
+    }
+
+    /// Times the sides in turns, of which the first two go first by turns. It tells the round with the
+    /// median ratio among the fastest so far: a machine that others slow down slows the sides unevenly.
+    pub fn times<const SIDES: usize>(&mut self, mut sides: [Side; SIDES]) -> Times<SIDES> {
+        if self.next == self.timed.len() {
+            self.timed.push(Vec::new());
+        }
+        let rounds = &mut self.timed[self.next];
+        self.next += 1;
+        rounds.push(best_times(&mut sides));
+        // By both sides alike: which of them is the slower one does not matter.
+        rounds.sort_by(|one, other| (one[0] * one[1]).total_cmp(&(other[0] * other[1])));
+        let mut fastest: Vec<&Vec<f64>> = rounds.iter().take(COUNTED).collect();
+        fastest.sort_by(|one, other| ratio(one).total_cmp(&ratio(other)));
+        let mut times = [0.0; SIDES];
+        times.copy_from_slice(fastest[fastest.len() / 2]);
+        Times(times)
+    }
+
+    /// The columns of a table: what is called, on what, its size, the sides' times, and the ratio of
+    /// the first two.
+    pub fn heading<const SIDES: usize>(&mut self, size: &str, sides: [&str; SIDES]) {
+        let (call, case) = ("call", "case");
+        let sides = sides.map(|side| format!("{side:>9}")).join(" ");
+        self.line(format!("\n{call:6}  {case:38} {size:>6} {sides}  ratio"));
+    }
+
+    /// A row of a table; the ratio.
+    pub fn row<const SIDES: usize>(
+        &mut self,
+        call: &str,
+        case: &str,
+        size: usize,
+        times: Times<SIDES>,
+    ) -> f64 {
+        let ratio = times.ratio();
+        let times = times.0.map(|time| format!("{time:9.1}")).join(" ");
+        self.line(format!("{call:6}  {case:38} {size:6} {times} {ratio:6.3}"));
+        ratio
+    }
+
+    fn line(&mut self, line: String) {
+        writeln!(self.tables, "{line}").expect("a string takes it");
+    }
+
+    /// Prints the tables and the bars; how many bars are met, and how many missed.
+    pub fn print(&self) -> (usize, usize) {
+        println!("{}", self.tables);
+        let met = self.bars.iter().filter(|bar| is_met(bar)).count();
+        (met, self.bars.len() - met)
+    }
+}
+
+/// The best turn of each side.
+fn best_times<const SIDES: usize>(sides: &mut [Side; SIDES]) -> Vec<f64> {
     let mut calls = [0; SIDES];
-    for (calls, side) in calls.iter_mut().zip(&mut sides) {
+    for (calls, side) in calls.iter_mut().zip(sides.iter_mut()) {
         *calls = turn_length(side);
     }
     let mut order = [0; SIDES];
     for (place, side) in order.iter_mut().enumerate() {
         *side = place;
     }
-    let mut best = [f64::INFINITY; SIDES];
+    let mut best = vec![f64::INFINITY; SIDES];
     for _ in 0..TURNS {
         for side in order {
             best[side] = best[side].min(turn(sides[side], calls[side]));
         }
         order.swap(0, 1);
     }
-    Times {
-        best,
-        ratio: best[0] / best[1],
-    }
+    best
+}
+
+fn ratio(times: &[f64]) -> f64 {
+    times[0] / times[1]
 }
 
 /// So many calls, and how many were refused.
@@ -80,7 +159,7 @@ pub struct Bar {
 }
 
 /// Prints the bar, and whether it is met.
-pub fn is_met(bar: &Bar) -> bool {
+fn is_met(bar: &Bar) -> bool {
     let Bar {
         what,
         figure,
@@ -91,20 +170,4 @@ pub fn is_met(bar: &Bar) -> bool {
     let word = if met { "met" } else { "missed" };
     println!("{what}: {figure:.3} of {of}, bar {most:.2}: {word}");
     met
-}
-
-/// The columns of a table: what is called, on what, its size, the sides' best times, and the ratio of
-/// the first two.
-pub fn heading<const SIDES: usize>(size: &str, sides: [&str; SIDES]) {
-    let (call, case) = ("call", "case");
-    let sides = sides.map(|side| format!("{side:>9}")).join(" ");
-    println!("\n{call:6}  {case:38} {size:>6} {sides}  ratio");
-}
-
-/// A row of a table; the ratio.
-pub fn row<const SIDES: usize>(call: &str, case: &str, size: usize, times: Times<SIDES>) -> f64 {
-    let Times { best, ratio } = times;
-    let times = best.map(|time| format!("{time:9.1}")).join(" ");
-    println!("{call:6}  {case:38} {size:6} {times} {ratio:6.3}");
-    ratio
 }
