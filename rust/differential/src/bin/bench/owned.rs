@@ -11,8 +11,8 @@ use oracle::flowspec::parse_flowspec_nlri;
 use standard::{direct, Packet};
 use std::net::{IpAddr, Ipv4Addr, Ipv6Addr};
 
-/// At most so much of the original's time. A short rule has no bar: half of either side's time goes to
-/// the same allocations.
+/// At most so much of the original's time. Short rules have no bar: both sides make the same
+/// allocations, which are half of the time of the 7-octet rule.
 const PARSE: f64 = 0.8;
 
 /// How many rules there are to choose from.
