@@ -106,7 +106,7 @@ fn short_prefix(reading: Reading, s: &[u8], at: usize) -> usize
     }
 }
 
-// On over the common components: a prefix of up to 32 bits, and a list of one operator which stands alone. Most rules have no other.
+// On over the common components: a prefix of up to 32 bits, and a list of one operator which stands alone.
 fn pass_common(
     reading: Reading,
     s: &[u8],

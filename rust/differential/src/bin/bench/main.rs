@@ -1,8 +1,8 @@
 //! Times the proved code beside Rust; `tools/bench` builds and runs this and says how.
 //!
 //! Both sides get the same octets and the same rules in one process, in turns. All is timed in rounds,
-//! and the median of the fastest half counts. The proved code fills lists that are lent once. The original
-//! allocates what it answers, and giving that back is in its time, as it is for its callers.
+//! of which the fastest count. The proved code fills lists that are lent once. The original allocates
+//! what it answers, and giving that back is in its time, as it is for its callers.
 
 mod changing;
 mod checking;
