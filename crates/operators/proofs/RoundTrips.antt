@@ -75,7 +75,7 @@ width-coded : (c : ℕ) → c < 4 → (isWidth (getD widths c 0) ≡ true) × (c
 unfolding proper isWidth codePart
 width-coded c h =
     let w = getD widths c 0 in
-    let t = at proper widths tt c h in
+    let t = at 0 proper widths tt c h in
     (test-true (isWidth w) (both-left (isWidth w) (eqb (codePart w) (16 * c)) t), eqb→eq (codePart w) (16 * c) (both-right (isWidth w) (eqb (codePart w) (16 * c)) t))
 
 -- four digits of a number below 16

@@ -14,13 +14,39 @@ pub struct Test {
     pub bits: u64,
 }
 
-// 0x04 less, 0x02 greater, 0x01 equal: the OR of those that are set.
+// How a number may stand to an operator's value: a bit for each of the three ways.
+const LESS: u8 = 0b100;
+
+const EQUAL: u8 = 0b010;
+
+const GREATER: u8 = 0b001;
+
+// The table of RFC 8955, 4.2.1.1: what a numeric operator asks for, by the three low bits of its octet: less, greater, equal. An entry has the
+// bits of the ways that make it true.
+const MEANINGS: [u8; 8] = [
+    0, // 0 0 0: false
+    EQUAL, // 0 0 1: ==
+    GREATER, // 0 1 0: >
+    GREATER | EQUAL, // 0 1 1: >=
+    LESS, // 1 0 0: <
+    LESS | EQUAL, // 1 0 1: <=
+    LESS | GREATER, // 1 1 0: !=
+    LESS | GREATER | EQUAL, // 1 1 1: true
+];
+
+// Whether the operator's entry of the table has the way in which the number stands to the value.
 fn compare(octet: u8, value: u64, datum: u64) -> bool
     ensures { λ r. ⌜ r ≡ compared octet value datum ⌝ }
 {
-    ((octet / 4 % 2 == 1) & (datum < value))
-        | ((octet / 2 % 2 == 1) & (value < datum))
-        | ((octet % 2 == 1) & (datum == value))
+    let row = (octet % 8) as usize;
+    let meaning = MEANINGS[row];
+    if datum < value {
+        meaning & LESS != 0
+    } else if datum == value {
+        meaning & EQUAL != 0
+    } else {
+        meaning & GREATER != 0
+    }
 }
 
 // 0x01 match: all bits of the value; else some of them.
