@@ -425,28 +425,23 @@ fn bitmask_of(octet: u8, bitmask: u64) -> BitmaskOperator {
     }
 }
 
-/// The operators of all octets, with the value 0: one load, where to take an octet apart is a dozen steps.
-static NUMERIC: [NumericOperator; 256] = {
-    const NONE: NumericOperator = numeric_of_octet(0);
-    let mut table = [NONE; 256];
-    let mut octet = 0;
-    while octet < 256 {
-        table[octet] = numeric_of_octet(octet as u8);
-        octet += 1;
-    }
-    table
-};
+/// The operators of all octets, each made by a function of its octet.
+macro_rules! of_all_octets {
+    ($operator:ty, $of_octet:ident) => {{
+        const NONE: $operator = $of_octet(0);
+        let mut table = [NONE; 256];
+        let mut octet = 0;
+        while octet < 256 {
+            table[octet] = $of_octet(octet as u8);
+            octet += 1;
+        }
+        table
+    }};
+}
 
-static BITMASK: [BitmaskOperator; 256] = {
-    const NONE: BitmaskOperator = bitmask_of_octet(0);
-    let mut table = [NONE; 256];
-    let mut octet = 0;
-    while octet < 256 {
-        table[octet] = bitmask_of_octet(octet as u8);
-        octet += 1;
-    }
-    table
-};
+/// With the value 0: one load, where to take an octet apart is a dozen steps.
+static NUMERIC: [NumericOperator; 256] = of_all_octets!(NumericOperator, numeric_of_octet);
+static BITMASK: [BitmaskOperator; 256] = of_all_octets!(BitmaskOperator, bitmask_of_octet);
 
 const fn numeric_of_octet(octet: u8) -> NumericOperator {
     NumericOperator {
