@@ -142,11 +142,18 @@ static inline const char *krubbadin_status_text(uint64_t status)
  *    8           fragment bits, to 15: DF 1, IsF 2, FF 4, LF 8
  *    9, 10, 11   whether there are ports, 0 or 1; source port, destination port, to 65,535
  *   12, 13, 14   whether there are ICMP fields, 0 or 1; type, code, to 255
- *   15, 16       whether there are TCP flags, 0 or 1; header octet 14 counted from 1, to 255
+ *   15, 16       whether there are TCP flags, 0 or 1; the flags, to 4,095: octets 13 and 14 of the TCP header counted from 1, with the data
+ *                offset taken as 0 (krubbadin_tcp_flags makes them)
  *   17, 18       whether there is a flow label, 0 or 1 and in family 4 always 0; the label, to 1,048,575
  *   19           0
  */
 #define KRUBBADIN_PACKET_WORDS 20
+
+/* The TCP flags of octets 13 and 14 of a TCP header, counted from 1. The data offset, the upper four bits of octet 13, is left out. */
+static inline uint64_t krubbadin_tcp_flags(uint8_t octet_13, uint8_t octet_14)
+{
+    return ((octet_13 & 0x0Fu) << 8) | octet_14;
+}
 
 /*
  * Reads a rule from the front of `input` into the first 64 words, its operators into the two lists. With `standard` 0 it is the plain

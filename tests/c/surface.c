@@ -269,6 +269,18 @@ static void matched(void)
     CHECK(is(krubbadin_match(l.words, 64, l.values, 8, l.octets, 8, packet, 20), 0, 0, 0));
     READS(4, &l, "\x03\x09\x80\x12");
     CHECK(is(krubbadin_match(l.words, 64, l.values, 8, l.octets, 8, packet, 20), 0, 1, 0));
+
+    /* The ninth bit; the data offset is left out. */
+    CHECK(krubbadin_tcp_flags(0x51, 0x02) == 0x102 && krubbadin_tcp_flags(0xFF, 0xFF) == 4095 && krubbadin_tcp_flags(0xF0, 0) == 0);
+    READS(4, &l, "\x04\x09\x91\x01\x00");
+    packet[16] = krubbadin_tcp_flags(0x51, 0x00);
+    CHECK(is(krubbadin_match(l.words, 64, l.values, 8, l.octets, 8, packet, 20), 0, 1, 0));
+    packet[16] = krubbadin_tcp_flags(0x50, 0xFF);
+    CHECK(is(krubbadin_match(l.words, 64, l.values, 8, l.octets, 8, packet, 20), 0, 0, 0));
+    packet[16] = 4095;
+    CHECK(is(krubbadin_match(l.words, 64, l.values, 8, l.octets, 8, packet, 20), 0, 1, 0));
+    packet[16] = 4096;
+    CHECK(is(krubbadin_match(l.words, 64, l.values, 8, l.octets, 8, packet, 20), 13, 0, 0));
 }
 
 static void ranked(void)

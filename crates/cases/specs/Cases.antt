@@ -135,6 +135,9 @@ rows =
     ++ case (match Ipv4 (0x03 ∷ 0x09 ∷ 0x81 ∷ 0x12 ∷ []) (flagged 0x02)) (matching-is (accepts false))
     ++ case (match Ipv4 (0x03 ∷ 0x09 ∷ 0x80 ∷ 0x12 ∷ []) (flagged 0x12)) (matching-is (accepts true))
     ++ case (match Ipv4 (0x03 ∷ 0x09 ∷ 0x80 ∷ 0x12 ∷ []) (flagged 0x02)) (matching-is (accepts true))
+    -- 04 09 91 01 00: flags 0x100 match, 0x0FF don't
+    ++ case (match Ipv4 (0x04 ∷ 0x09 ∷ 0x91 ∷ 0x01 ∷ 0x00 ∷ []) (flagged 0x100)) (matching-is (accepts true))
+    ++ case (match Ipv4 (0x04 ∷ 0x09 ∷ 0x91 ∷ 0x01 ∷ 0x00 ∷ []) (flagged 0x0FF)) (matching-is (accepts false))
     -- Places 0 03 01 08 0A, 1 04 01 10 0A 01: 10.1.2.3 gets place 1, 10.2.0.1 place 0, 11.0.0.1 none
     ++ case (choose Ipv4 two-prefixes (to 4 0x0A010203)) (choice-is (accepts (place 1)))
     ++ case (choose Ipv4 two-prefixes (to 4 0x0A020001)) (choice-is (accepts (place 0)))

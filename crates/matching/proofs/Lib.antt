@@ -1,3 +1,4 @@
+pub mod Flags
 pub mod Laws
 pub mod Numbers
 pub mod Patterns

@@ -20,12 +20,13 @@ pub record Row : Type 0 where
 unfoldable pub row : Piece → Packet → Bool → Row
 row x p b = record { piece = x; packet = p; answer = b }
 
--- the lent operators: `03 50 45 5A 91 01 BB` at places 0 to 2, `81 4A` at 3, `80 11` at 4
+-- the lent operators: `03 50 45 5A 91 01 BB` at places 0 to 2, `81 4A` at 3, `80 11` at 4; `81 12` at 5, and the mask 0x1002 by each of the four operators, the
+-- first `90 10 02`, at 6 to 9
 unfoldable pub octets : List ℕ
-octets = 3 ∷ 69 ∷ 145 ∷ 129 ∷ 128 ∷ []
+octets = 3 ∷ 69 ∷ 145 ∷ 129 ∷ 128 ∷ 0x81 ∷ 0x90 ∷ 0x91 ∷ 0x92 ∷ 0x93 ∷ []
 
 unfoldable pub values : List ℕ
-values = 80 ∷ 90 ∷ 443 ∷ 74 ∷ 17 ∷ []
+values = 80 ∷ 90 ∷ 443 ∷ 74 ∷ 17 ∷ 0x12 ∷ 0x1002 ∷ 0x1002 ∷ 0x1002 ∷ 0x1002 ∷ []
 
 -- a packet of a family to an address, with these ports, TCP flags, DSCP and fragment bits
 unfoldable pub packet : ℕ → ℕ → Pair → ℕ → ℕ → ℕ → Packet
@@ -67,6 +68,16 @@ rows =
     -- of 17 only DF counts, and in family 6 nothing
     ∷ row (Operators 12 4 1) (packet 4 0 neither 0 0 1) true
     ∷ row (Operators 12 4 1) (packet 6 0 neither 0 0 1) false
+    -- one octet of a mask meets header octet 14, whatever octet 13 holds
+    ∷ row (Operators 9 5 1) (flagged 0xF12) true
+    ∷ row (Operators 9 5 1) (flagged 0xF02) false
+    -- the bit above the twelve meets 0: without match it does nothing, with match it makes the mask false; then NOT
+    ∷ row (Operators 9 6 1) (flagged 0x002) true
+    ∷ row (Operators 9 6 1) (flagged 0xFFD) false
+    ∷ row (Operators 9 7 1) (flagged 0xFFF) false
+    ∷ row (Operators 9 8 1) (flagged 0x002) false
+    ∷ row (Operators 9 8 1) (flagged 0xFFD) true
+    ∷ row (Operators 9 9 1) (flagged 0xFFF) true
     -- bits 63 and 64 of an address, whatever the others are
     ∷ row (Prefix 1 (Ipv6Offset 65 63 1 9223372036854775808)) (to 6 27670116110564327429) true
     ∷ row (Prefix 1 (Ipv6Offset 65 63 1 9223372036854775808)) (to 6 18446744073709551616) false

@@ -36,8 +36,8 @@ prefixMatches (Ipv6Offset len offset h l) a = sameBits 128 offset len (wide h l)
 
 -- ---- a list of operators
 
--- an operator's value is a number of 64 bits, and all count but for: "Of a fragment mask only the bits of 15 count (in family 6 of 14), of a
--- DSCP value only those of 63"
+-- an operator's value is a number of 64 bits, and all count, those of a TCP mask too ("its bits above the twelve meet 0"), but for: "Of a fragment mask
+-- only the bits of 15 count (in family 6 of 14), of a DSCP value only those of 63"
 abbrev pub countedBits : ℕ → ℕ → ℕ
 countedBits family type = pick (eqb type 11) 63 (pick (eqb type 12) (pick (eqb family 6) 14 15) 18446744073709551615)
 

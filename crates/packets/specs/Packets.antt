@@ -1,5 +1,5 @@
 -- A packet, which packets are in range, and which one 20 words lend: document 01, "Matching and ranking".
-use Prim.Native.Nat.{ℕ, _^_}
+use Prim.Native.Nat.{ℕ, _+_, _*_, _%_, _^_}
 use mathlib.Core.List.{List}
 use mathlib.Core.Bool.{Bool, true, not, _&&_, _||_}
 use lib.ListN.{length, getD}
@@ -56,12 +56,16 @@ abbrev pub labelFits : ℕ → Field → Bool
 labelFits family absent = true
 labelFits family (present n) = not (eqb family 4) && leb n 1048575
 
--- "TCP flags are one octet"
+-- "TCP flags (to 4,095)"
 abbrev pub mostFlags : ℕ
-mostFlags = 255
+mostFlags = 4095
+
+-- "TCP flags are twelve bits, header octets 13 and 14 counted from 1 with the data offset taken as 0" (RFC 8955, 4.2.2.9)
+abbrev pub headerFlags : ℕ → ℕ → ℕ
+headerFlags octet13 octet14 = octet13 % 16 * 256 + octet14
 
 -- "protocol (to 255), length (to 65,575), DSCP (to 63), fragment bits (to 15), and, each present or absent: a port pair (to 65,535), an
--- ICMP type and code pair (to 255), TCP flags, a flow label"
+-- ICMP type and code pair (to 255), TCP flags (to 4,095), a flow label"
 unfoldable pub packetOk : Packet → Bool
 packetOk p =
     familyOk (p .family)

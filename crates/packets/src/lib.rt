@@ -17,8 +17,8 @@ ghost use Rattle.packets.specs.Packets.{addressFits, pairFits, fieldFits
 ghost use Rattle.packets.specs.Shown.{addressOf, placed, placeOf, shownBy};
 use wide::Wide;
 
-// Header octet 14. The only place that knows how wide the flags are.
-const MOST_FLAGS: u64 = 255;
+// Twelve bits: header octets 13 and 14 without the data offset. The only place that knows how wide the flags are.
+const MOST_FLAGS: u64 = 4095;
 
 fn address_fits(family: u64, high: u64, low: u64) -> bool
     ensures { λ r. ⌜ r ≡ addressFits family (wide high low) ⌝ }

@@ -1,10 +1,11 @@
 -- The groups of a list, read from the left: `going g os` is the answer where the group so far has the truth g.
 use Prim.Native.Nat.{ℕ, suc, _+_, _-_, _≤_, _<_}
-use mathlib.Core.Path.{_≡_, refl, sym, _∙_}
+use mathlib.Core.Path.{_≡_, refl, sym, ap₂, _∙_}
 use mathlib.Core.List.{List, [], _∷_}
 use mathlib.Core.Bool.{Bool, true, false, not, _&&_, _||_, false≢true}
 use native.Mathlib.Omega.{arith}
 use lib.ListN.{getD}
+use Rattle.ground.proofs.Cases.{by-test, both}
 use Rattle.operators.specs.Ops.{Op, op, opsIn}
 use Rattle.satisfying.specs.Lists.{andOf, joined, later, groups, all, any, listMatches}
 
@@ -44,6 +45,35 @@ module _ (t : Op → Bool) where
   pub nothing : listMatches t [] ≡ false
   unfolding listMatches groups any
   nothing = refl
+
+-- ---- a list asks nothing but the truth of its operators: two truths that agree on those that pass a test agree on a list of such
+
+module _ (t u : Op → Bool) (test : Op → Bool) (same : (o : Op) → test o ≡ true → t o ≡ u o) where
+  agree-all : (o : Op) (os : List Op) → test o ≡ true → all t os ≡ all u os → all t (o ∷ os) ≡ all u (o ∷ os)
+  unfolding all
+  agree-all o os h e = ap₂ _&&_ (same o h) e
+
+  agree-joined : (os : List Op) → all test os ≡ true → all t (joined os) ≡ all u (joined os)
+  unfolding all joined
+  agree-joined [] h = refl
+  agree-joined (o ∷ os) h =
+      let k = both (test o) (all test os) h in
+      by-test (andOf o) (λ e. rw e (agree-all o (joined os) (k .0) (agree-joined os (k .1)))) (λ e. rw e)
+
+  agree-later : (os : List Op) → all test os ≡ true → any (all t) (later os) ≡ any (all u) (later os)
+  unfolding all any later
+  agree-later [] h = refl
+  agree-later (o ∷ os) h =
+      let k = both (test o) (all test os) h in
+      by-test (andOf o) (λ e. rw e (agree-later os (k .1)))
+      (λ e. rw e (ap₂ _||_ (agree-all o (joined os) (k .0) (agree-joined os (k .1))) (agree-later os (k .1))))
+
+  pub agrees : (os : List Op) → all test os ≡ true → listMatches t os ≡ listMatches u os
+  unfolding all any listMatches groups
+  agrees [] h = refl
+  agrees (o ∷ os) h =
+      let k = both (test o) (all test os) h in
+      ap₂ _||_ (agree-all o (joined os) (k .0) (agree-joined os (k .1))) (agree-later os (k .1))
 
 -- ---- in the lent lists, from a place on
 

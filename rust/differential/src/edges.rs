@@ -19,6 +19,7 @@ pub fn matches(take: TakeWithPacket) {
     widths(take);
     joined(take);
     masks(take);
+    tcp_flags(take);
     wide_and_joined_masks(take);
     dscp(take);
     prefix_bits(take);
@@ -228,11 +229,41 @@ fn masks(take: TakeWithPacket) {
     }
 }
 
+/// TCP flags over their whole range against masks of one and of two octets by each of the four
+/// operators, and every mask of two octets against flags that have it and lack a bit of it or have
+/// one more.
+fn tcp_flags(take: TakeWithPacket) {
+    let mut put = |family, octet, mask, flags: u64| {
+        let rule = stored(family, vec![list(9, &[(octet, mask)])]);
+        take(&rule, &packets::words(&full(family, flags)));
+    };
+    let one_octet = [0x00, 0x02, 0x12, 0xFF].map(|mask| (0x80, mask));
+    let two_octets = [
+        0x0000, 0x0012, 0x0100, 0x0112, 0x0F00, 0x0FFF, 0x1000, 0x8102, 0xFFFF,
+    ];
+    let two_octets = two_octets.map(|mask| (0x90, mask));
+    for low in 0..4 {
+        for family in FAMILIES {
+            for (octet, mask) in one_octet.into_iter().chain(two_octets) {
+                for flags in 0..=0xFFF {
+                    put(family, octet | low, mask, flags);
+                }
+            }
+        }
+        for mask in 0..=0xFFFF {
+            let family = FAMILIES[mask as usize % 2];
+            put(family, 0x90 | low, mask, mask & 0xFFF);
+            put(family, 0x90 | low, mask, (mask ^ 1 << (mask % 12)) & 0xFFF);
+        }
+    }
+}
+
 /// Masks that are wider than what they are held to, and two masks that are joined or not.
 fn wide_and_joined_masks(take: TakeWithPacket) {
     let wide = [
         (0x10, 0x100),
         (0x10, 0x112),
+        (0x10, 0x1012),
         (0x20, 0x1_0012),
         (0x30, 1 << 63 | 0x12),
         (0x30, 1 << 63),
@@ -242,7 +273,7 @@ fn wide_and_joined_masks(take: TakeWithPacket) {
             for (width, mask) in wide {
                 for low in 0..4 {
                     let rule = stored(family, vec![list(kind, &[(0x80 | width | low, mask)])]);
-                    for flags in [0, 0x02, 0x10, 0x12, 0xFF] {
+                    for flags in [0, 0x02, 0x10, 0x12, 0xFF, 0x100, 0xFFF] {
                         take(&rule, &packets::words(&full(family, flags)));
                     }
                 }

@@ -123,7 +123,8 @@ fn operator(kind: u8, reserved: bool, random: &mut Random) -> Operator {
         4 => most + 1,
         5 => random.value(),
         6..=8 => random.below(8) as u64,
-        9 if is_bitmask(kind) => 1 << random.below(9),
+        9 if kind == 9 => 1 << random.below(17),
+        9 if kind == 12 => 1 << random.below(9),
         _ => random.below(most as usize + 1) as u64,
     };
     let least = least_code(value);

@@ -23,7 +23,7 @@ pub const MOST: [(usize, u64); 11] = [
     (11, 65_535),
     (13, 255),
     (14, 255),
-    (16, 255),
+    (16, 0xFFF),
     (18, 0xF_FFFF),
     (LAST, 0),
 ];
@@ -59,6 +59,7 @@ pub fn packet(words: &[u64]) -> Packet {
 pub fn most(kind: u8) -> u64 {
     match kind {
         4..=6 => 65_535,
+        9 => 0xFFF,
         10 => 65_575,
         11 => 63,
         12 => 15,
@@ -206,7 +207,7 @@ fn near_operator(kind: u8, operator: Operator, random: &mut Random) -> u64 {
     };
     let number = match (kind, random.below(10)) {
         (9 | 12, 0..=2) => value,
-        (9 | 12, 3..=5) => value ^ 1 << random.below(if kind == 9 { 8 } else { 4 }),
+        (9 | 12, 3..=5) => value ^ 1 << random.below(if kind == 9 { 12 } else { 4 }),
         (9 | 12, 6) => 0,
         (9 | 12, 7) => most,
         (9 | 12, _) => random.below(most as usize + 1) as u64,

@@ -249,6 +249,18 @@ fn fields(family: u8, list: &mut Vec<Request>) {
             put(text, &|packet| packet.flags = Some(flags));
         }
     }
+    let two_octets = [
+        "04 09 91 01 00",
+        "04 09 90 01 02",
+        "04 09 92 0F 00",
+        "04 09 91 11 02",
+        "04 09 93 11 02",
+    ];
+    for text in two_octets {
+        for flags in [0x000, 0x002, 0x0FF, 0x100, 0x102, 0xF00, 0xFFF] {
+            put(text, &|packet| packet.flags = Some(flags));
+        }
+    }
     for text in ["03 0C 81 01", "03 0C 80 01", "03 0C 83 F3", "03 0C 80 05"] {
         for fragment in 0..16 {
             put(text, &|packet| packet.fragment = fragment);

@@ -37,7 +37,8 @@ pub struct Packet {
     pub ports: Option<(u16, u16)>,
     /// The ICMP or ICMPv6 type and code.
     pub icmp: Option<(u8, u8)>,
-    /// The TCP flags: octet 14 of the header counted from 1, so at most 255.
+    /// The TCP flags as they stand in octets 13 and 14 of the header, counted from 1, with the data offset taken as 0: twelve bits, so at
+    /// most 4,095. [`tcp_flags_of`](Packet::tcp_flags_of) makes them from the two octets. A mask of one octet is held to octet 14 alone.
     pub tcp_flags: Option<u16>,
     /// The flow label, at most 1,048,575. IPv4 has none.
     pub flow_label: Option<u32>,
@@ -91,6 +92,24 @@ impl Packet {
             tcp_flags: None,
             flow_label: None,
         }
+    }
+
+    /// The TCP flags of octets 13 and 14 of a TCP header, counted from 1: `[header[12], header[13]]`. The data offset, the upper four bits of
+    /// octet 13, is left out.
+    ///
+    /// ```
+    /// use krubbadin::{matches, read, Family, Packet};
+    ///
+    /// let mut packet = Packet::new([203, 0, 113, 5], [192, 0, 2, 1]);
+    /// packet.tcp_flags = Some(Packet::tcp_flags_of([0x51, 0x02])); // a header of five words, the ninth bit and SYN
+    /// assert_eq!(packet.tcp_flags, Some(0x102));
+    ///
+    /// let (ninth_bit, _) = read(Family::Ipv4, &[0x04, 0x09, 0x91, 0x01, 0x00])?;
+    /// assert!(matches(Family::Ipv4, &ninth_bit, &packet)?);
+    /// # Ok::<(), krubbadin::Refusal>(())
+    /// ```
+    pub const fn tcp_flags_of(octets: [u8; 2]) -> u16 {
+        u16::from_be_bytes(octets) & 0x0FFF
     }
 
     /// Its words, as the calls of [`crate::surface`] take a packet. Addresses of two families have family 0, which those refuse.

@@ -37,7 +37,7 @@
 //! | 5, 6, 7, 8 | protocol (to 255), length (to 65,575), DSCP (to 63), fragment bits (to 15: DF 1, IsF 2, FF 4, LF 8) |
 //! | 9, 10, 11 | whether there are ports, 0 or 1; source port, destination port (to 65,535) |
 //! | 12, 13, 14 | whether there are ICMP fields; type, code (to 255) |
-//! | 15, 16 | whether there are TCP flags; the flags (to 255) |
+//! | 15, 16 | whether there are TCP flags; the flags (to 4,095): octets 13 and 14 of the TCP header counted from 1, the data offset taken as 0 |
 //! | 17, 18 | whether there is a flow label, never in family 4; the label (to 1,048,575) |
 //! | 19 | 0 |
 

@@ -487,7 +487,7 @@ pub enum Field {
     Ports,
     /// An ICMP type or code is above 255.
     Icmp,
-    /// The TCP flags are above 255.
+    /// The TCP flags are above 4,095.
     TcpFlags,
     /// The flow label is above 1,048,575.
     FlowLabel,
@@ -512,7 +512,10 @@ impl Display for Field {
             Field::Fragment => write!(f, "the fragment bits are above 15"),
             Field::Ports => write!(f, "a port is above 65535"),
             Field::Icmp => write!(f, "the ICMP type or code is above 255"),
-            Field::TcpFlags => write!(f, "the TCP flags are above 255"),
+            Field::TcpFlags => write!(
+                f,
+                "the TCP flags are above 4095; the data offset is no part of them"
+            ),
             Field::FlowLabel => write!(f, "the flow label is above 1048575"),
             Field::LabelInIpv4 => write!(f, "it has a flow label, which is not in IPv4 (RFC 8956)"),
             Field::Presence(word) => write!(f, "word {word} is neither 0 nor 1"),

@@ -68,6 +68,38 @@ fn operators(component: &FlowSpecComponent) -> usize {
     }
 }
 
+/// Whatever octets 13 and 14 of a TCP header are, they make flags that a packet may have: without the data offset.
+#[test]
+fn tcp_flags_of_every_two_octets() {
+    let masks = [
+        (read(Family::Ipv4, &[0x04, 0x09, 0x91, 0x01, 0x00]), 0x100),
+        (read(Family::Ipv4, &[0x04, 0x09, 0x91, 0x08, 0x12]), 0x812),
+        (read(Family::Ipv4, &[0x03, 0x09, 0x81, 0x12]), 0x012),
+    ];
+    let masks = masks.map(|(rule, mask)| (rule.unwrap().0, mask));
+    let mut packet = Packet::new([10, 1, 2, 3], [192, 0, 2, 1]);
+    for octets in (0..=u16::MAX).map(u16::to_be_bytes) {
+        let flags = Packet::tcp_flags_of(octets);
+        assert_eq!(
+            flags,
+            u16::from(octets[0] % 16) * 256 + u16::from(octets[1])
+        );
+        packet.tcp_flags = Some(flags);
+        for (rule, mask) in &masks {
+            let wanted = Ok(flags & mask == *mask);
+            assert_eq!(matches(Family::Ipv4, rule, &packet), wanted, "{octets:?}");
+        }
+    }
+    // The octets as they are, with a data offset of 5.
+    packet.tcp_flags = Some(0x5112);
+    let (rule, _) = &masks[0];
+    assert_eq!(
+        matches(Family::Ipv4, rule, &packet),
+        Err(Refusal::BadPacket)
+    );
+    assert_eq!(packet.why(), Some(Field::TcpFlags));
+}
+
 #[test]
 fn owned_rules_match_rank_and_choose_as_tables_of_words_do() {
     let mut rules = [Vec::new(), Vec::new()];
@@ -181,7 +213,7 @@ fn each_refusal_is_met_where_it_belongs() {
             ..four
         },
         Packet {
-            tcp_flags: Some(256),
+            tcp_flags: Some(4096),
             ..four
         },
         Packet {

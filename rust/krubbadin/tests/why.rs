@@ -394,7 +394,7 @@ fn each_field_of_a_packet_is_named() {
         (&[(12, 1), (13, 256)], Field::Icmp, true),
         (&[(12, 1), (14, 256)], Field::Icmp, true),
         (&[(15, 2)], Field::Presence(15), true),
-        (&[(15, 1), (16, 256)], Field::TcpFlags, true),
+        (&[(15, 1), (16, 4096)], Field::TcpFlags, true),
         (&[(17, 2)], Field::Presence(17), true),
         (&[(19, 1)], Field::Unused, true),
     ];

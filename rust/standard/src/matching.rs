@@ -4,7 +4,7 @@ use crate::checking::check;
 use crate::packets::Packet;
 use crate::refusals::Refusal;
 use crate::rules::{Address, Component, Content, Flow, Operator, Prefix, Rule};
-use crate::terms::{AND, EQUAL, GREATER, LESS, MATCH, NOT};
+use crate::terms::{width, AND, EQUAL, GREATER, LESS, MATCH, NOT};
 
 /// Whether the rule matches; refused as the chooser refuses this rule alone and the packet.
 pub fn matches(flow: &Flow, packet: &Packet) -> Result<bool, Refusal> {
@@ -62,7 +62,10 @@ fn numbers(kind: u8, packet: &Packet) -> Vec<u64> {
 fn list_matches(kind: u8, list: &[Operator], family: u64, number: u64) -> bool {
     let mut alternatives = alternatives(list).into_iter();
     match kind {
-        9 => alternatives.any(|joined| joined.iter().all(|one| mask_holds(one, !0, number))),
+        9 => {
+            let holds = |one: &Operator| mask_holds(one, !0, header_octets(one, number));
+            alternatives.any(|joined| joined.iter().all(holds))
+        }
         12 => {
             // RFC 8955, 4.2.2.12: four bits. RFC 8956, 3.6: there is no DF.
             let counted = if family == 6 { 0b1110 } else { 0b1111 };
@@ -82,6 +85,16 @@ fn alternatives(list: &[Operator]) -> Vec<&[Operator]> {
     let ends = starts.iter().skip(1).copied().chain([list.len()]);
     let runs = starts.iter().zip(ends);
     runs.map(|(&start, end)| &list[start..end]).collect()
+}
+
+/// RFC 8955, 4.2.2.9: a mask of one octet is held to octet 14 of the TCP header, a longer one to
+/// octets 13 and 14 with the data offset taken as 0.
+fn header_octets(operator: &Operator, flags: u64) -> u64 {
+    let [.., octet_13, octet_14] = flags.to_be_bytes();
+    match width(operator.octet) {
+        1 => octet_14.into(),
+        _ => u16::from_be_bytes([octet_13 & 0x0F, octet_14]).into(),
+    }
 }
 
 /// RFC 8955, 4.2.1.2: with the match bit every bit of the mask must be set, without it one of them;

@@ -16,6 +16,8 @@ pub struct Packet {
     pub ports: Option<(u64, u64)>,
     /// Type and code.
     pub icmp: Option<(u64, u64)>,
+    /// Octets 13 and 14 of the TCP header, counted from 1, as one number. The data offset, the first
+    /// half of octet 13, is 0.
     pub flags: Option<u64>,
     pub label: Option<u64>,
 }
@@ -43,7 +45,7 @@ impl Packet {
             && self.fragment <= 15
             && both(self.ports, 65_535)
             && both(self.icmp, 255)
-            && self.flags.map_or(true, |flags| flags <= 255)
+            && self.flags.map_or(true, |flags| flags <= 0x0FFF)
             && label
     }
 }

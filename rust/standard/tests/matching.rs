@@ -77,13 +77,44 @@ fn tcp_flags() {
     // SYN without ACK.
     assert!(is_match("05 09 01 02 C2 10", &with(0x02)));
     assert!(!is_match("05 09 01 02 C2 10", &with(0x12)));
-    // Flags are one octet: a mask of two asks for bits that are never set.
-    assert!(!is_match("04 09 91 01 02", &with(0x02)));
-    assert!(is_match("04 09 90 01 02", &with(0x02)));
-    assert!(!is_match("04 09 90 01 00", &with(0xFF)));
     // A mask of 0.
     assert!(is_match("03 09 81 00", &with(0)));
     assert!(!is_match("03 09 80 00", &with(0xFF)));
+}
+
+/// RFC 8955, 4.2.2.9: one octet of a mask is header octet 14, two are octets 13 and 14 with the data
+/// offset as 0.
+#[test]
+fn tcp_flags_of_two_octets() {
+    let with = |flags| Packet {
+        flags: Some(flags),
+        ..packet(4)
+    };
+    // The ninth bit.
+    assert!(is_match("04 09 91 01 00", &with(0x100)));
+    assert!(!is_match("04 09 91 01 00", &with(0x0FF)));
+    assert!(is_match("04 09 90 01 02", &with(0x002)));
+    assert!(!is_match("04 09 91 01 02", &with(0x002)));
+    for flags in 0..=0xFFF {
+        let octet_14 = with(flags & 0xFF);
+        for low in 0..4 {
+            // Whatever octet 13 holds.
+            let one = component_matches(list(9, &[(0x80 | low, 0x12)]), &with(flags));
+            let alone = component_matches(list(9, &[(0x80 | low, 0x12)]), &octet_14);
+            assert_eq!(one, alone, "{low} {flags:#X}");
+            for mask in [0x0000, 0x0012, 0x0100, 0x0912, 0x1000, 0x8912, 0xFFFF] {
+                let found = flags & mask;
+                let wanted = match low {
+                    0 => found != 0,
+                    1 => found == mask,
+                    2 => found == 0,
+                    _ => found != mask,
+                };
+                let met = component_matches(list(9, &[(0x90 | low, mask)]), &with(flags));
+                assert_eq!(met, wanted, "{low} {mask:#X} {flags:#X}");
+            }
+        }
+    }
 }
 
 #[test]
@@ -458,7 +489,7 @@ fn packets_out_of_range() {
             fragment: 15,
             ports: Some((65_535, 65_535)),
             icmp: Some((255, 255)),
-            flags: Some(255),
+            flags: Some(4095),
             label: full.label.map(|_| 1_048_575),
             ..full.clone()
         };
@@ -472,7 +503,7 @@ fn packets_out_of_range() {
             &|packet| packet.ports = Some((0, 65_536)),
             &|packet| packet.icmp = Some((256, 0)),
             &|packet| packet.icmp = Some((0, 256)),
-            &|packet| packet.flags = Some(256),
+            &|packet| packet.flags = Some(4096),
             &|packet| packet.label = Some(1_048_576),
             &|packet| packet.family = 5,
             &|packet| packet.protocol = u64::MAX,
