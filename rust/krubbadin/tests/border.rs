@@ -487,7 +487,7 @@ fn packet(random: &mut Random) -> Vec<u64> {
         256,
         256,
         2,
-        256,
+        4096,
         2,
         1 << 20,
     ] {
