@@ -25,12 +25,24 @@ extern "C" {
 /*
  * What a call answers. Status 0: accepted, and `first` and `second` are what the call says. Any other status is the number of a
  * refusal, and `first` and `second` are what it carries, 0 where it carries less.
+ *
+ * `place` says where a reading was refused, by 1 to 6: the place of the wrong octet, counted from 0 at the start of the input. That is the
+ * type octet of 2 and 3, the prefix's length octet of 4, also where it is the offset that does not fit, and the operator octet of 5. An octet
+ * that is missing, 1, has the place just past the end that it is missing before: the input's end in the length and in the plain reading, the
+ * stated end in a standard one, or the input's where that comes first. Any other answer has KRUBBADIN_NOWHERE.
+ *
+ * `place` joined the others later, and the struct is larger for it: an object that was compiled with a header without `place` must be
+ * compiled again. Its source code compiles unchanged.
  */
 struct krubbadin_answer {
     uint64_t status;
     uint64_t first;
     uint64_t second;
+    uint64_t place;
 };
+
+/* The place of an answer that has none: all ones. */
+#define KRUBBADIN_NOWHERE UINT64_MAX
 
 /* The status numbers, with what each carries. */
 enum krubbadin_status {
@@ -160,7 +172,7 @@ static inline uint64_t krubbadin_tcp_flags(uint8_t octet_13, uint8_t octet_14)
  * reading (bgpkit-parser's), which looks at no family; else the standard one in `family`, 4 or 6.
  *
  * Accepted: first is the octets used, second the number of operators. All 64 words are written; words after them and places past the last
- * operator stay. Refused by 8 (plain) or 11 (standard), then by 1 to 5 as the walk meets them, then by 9.
+ * operator stay. Refused by 8 (plain) or 11 (standard), then by 1 to 5 as the walk meets them, each with its place, then by 9.
  */
 struct krubbadin_answer krubbadin_read(uint8_t standard, uint8_t family,
                                        const uint8_t *input, size_t input_len,
@@ -173,7 +185,7 @@ struct krubbadin_answer krubbadin_read(uint8_t standard, uint8_t family,
  * by the plain reading, which looks at no family; else by the standard one in `family`, 4 or 6.
  *
  * Accepted: first is the octets used, the length's own included, second the number of operators, which is how many places krubbadin_read
- * needs in each list. Refused by 8 (plain) or 11 (standard), then by 1 to 5 as the walk meets them, and never by 9.
+ * needs in each list. Refused by 8 (plain) or 11 (standard), then by 1 to 5 as the walk meets them, each with its place, and never by 9.
  */
 struct krubbadin_answer krubbadin_check(uint8_t standard, uint8_t family,
                                         const uint8_t *input, size_t input_len);
@@ -226,7 +238,7 @@ struct krubbadin_answer krubbadin_choose(const uint64_t *words, size_t words_len
                                          const uint8_t *octets, size_t octets_len,
                                          const uint64_t *packet, size_t packet_len);
 
-/* An operator. On a refusal all but `status` and `carried` is 0. */
+/* An operator. On a refusal all but `status` and `carried` is 0. It comes from no input, so that its refusal has no place. */
 struct krubbadin_operator {
     uint64_t status;        /* 0, or the number of the refusal */
     uint64_t carried;       /* what the refusal carries, else 0 */

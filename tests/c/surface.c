@@ -1,6 +1,6 @@
 /*
- * The surface from C: document 01's cases ("## Cases") and its refusals through include/krubbadin.h. Prints each check that fails, and last
- * 'N checks, M failed'. tests/c/run builds and runs it, also as C++.
+ * The surface from C: document 01's cases ("## Cases") and its refusals, with the places of document 02's W-202, through include/krubbadin.h.
+ * Prints each check that fails, and last 'N checks, M failed'. tests/c/run builds and runs it, also as C++.
  */
 #include "krubbadin.h"
 
@@ -40,12 +40,36 @@ static int untouched(const struct lent *l)
     return memcmp(l, &f, sizeof f) == 0;
 }
 
-static int is(struct krubbadin_answer a, uint64_t status, uint64_t first, uint64_t second)
+static int is_at(uint64_t place, struct krubbadin_answer a, uint64_t status, uint64_t first, uint64_t second)
 {
-    return a.status == status && a.first == first && a.second == second;
+    return a.status == status && a.first == first && a.second == second && a.place == place;
 }
 
-/* A check answers what a reading with room for all does, here of the input and of every truncation of it. */
+/* An answer without a place. */
+static int is(struct krubbadin_answer a, uint64_t status, uint64_t first, uint64_t second)
+{
+    return is_at(KRUBBADIN_NOWHERE, a, status, first, second);
+}
+
+/* The end before which an octet is missing: the input's, in a standard reading the stated one where that comes first. */
+static uint64_t bound(uint8_t family, const uint8_t *input, size_t length)
+{
+    size_t width, end;
+    if (family == 0 || length == 0) {
+        return length;
+    }
+    width = input[0] < 240 ? 1 : 2;
+    if (length < width) {
+        return length;
+    }
+    end = width == 1 ? 1u + input[0] : 2u + input[0] % 16u * 256u + input[1];
+    return end < length ? end : length;
+}
+
+/*
+ * A check answers what a reading with room for all does, here of the input and of every truncation of it; and where an octet is missing, the
+ * end before which it is.
+ */
 static int checks_the_same(uint8_t family, const uint8_t *input, size_t length)
 {
     static uint64_t words[KRUBBADIN_RULE_WORDS], values[KRUBBADIN_MOST_OPERATORS];
@@ -54,7 +78,10 @@ static int checks_the_same(uint8_t family, const uint8_t *input, size_t length)
     for (left = 0; left <= length; left++) {
         struct krubbadin_answer a = krubbadin_read(family != 0, family, input, left, words, KRUBBADIN_RULE_WORDS,
                                                    values, KRUBBADIN_MOST_OPERATORS, octets, KRUBBADIN_MOST_OPERATORS);
-        if (a.status == KRUBBADIN_NO_ROOM || !is(krubbadin_check(family != 0, family, input, left), a.status, a.first, a.second)) {
+        if (a.status == KRUBBADIN_NO_ROOM || !is_at(a.place, krubbadin_check(family != 0, family, input, left), a.status, a.first, a.second)) {
+            return 0;
+        }
+        if (a.status == KRUBBADIN_INSUFFICIENT_DATA && a.place != bound(family, input, left)) {
             return 0;
         }
     }
@@ -143,26 +170,27 @@ static void accepted(void)
 static void refused(void)
 {
     static uint8_t many[4098];
+    static uint64_t values[600];
     struct lent l;
     uint64_t rule[64] = {0};
     uint8_t out[4];
-    CHECK(is(reads(0, NULL, 0, &l), 1, 0, 0) && untouched(&l));
-    CHECK(is(READS(0, &l, "\xF0"), 1, 0, 0) && untouched(&l));
-    CHECK(is(READS(4, &l, "\xEF"), 1, 0, 0) && untouched(&l));
-    CHECK(is(READS(4, &l, "\x02\x03\x81\x06\x05"), 1, 0, 0) && untouched(&l));
-    CHECK(is(READS(0, &l, "\x03\x03\x89\x06"), 5, 0x89, 0) && untouched(&l));
-    CHECK(is(READS(0, &l, "\x02\x03\x89"), 1, 0, 0) && untouched(&l));
-    CHECK(is(READS(0, &l, "\x01\x00"), 2, 0, 0) && untouched(&l));
-    CHECK(is(READS(0, &l, "\x01\x0E"), 3, 14, 0) && untouched(&l));
-    CHECK(is(READS(4, &l, "\x06\x03\x81\x06\x03\x81\x11"), 2, 3, 3) && untouched(&l));
-    CHECK(is(READS(0, &l, "\x02\x01\x81"), 4, 0, 0) && untouched(&l));
-    CHECK(is(READS(4, &l, "\x02\x01\x81"), 4, 0, 0) && untouched(&l));
-    CHECK(is(READS(6, &l, "\x02\x01\x81"), 1, 0, 0) && untouched(&l));
-    CHECK(is(READS(0, &l, "\x02\x01\x21"), 1, 0, 0) && untouched(&l));
-    CHECK(is(READS(4, &l, "\x02\x01\x21"), 4, 0, 0) && untouched(&l));
-    CHECK(is(READS(0, &l, "\x04\x0D\x81\x00\x0E"), 3, 14, 0) && untouched(&l));
-    CHECK(is(READS(4, &l, "\x04\x0D\x81\x00\x0E"), 3, 13, 0) && untouched(&l));
-    CHECK(is(READS(6, &l, "\x03\x01\x40\x40"), 4, 0, 0) && untouched(&l));
+    CHECK(is_at(0, reads(0, NULL, 0, &l), 1, 0, 0) && untouched(&l));
+    CHECK(is_at(1, READS(0, &l, "\xF0"), 1, 0, 0) && untouched(&l));
+    CHECK(is_at(1, READS(4, &l, "\xEF"), 1, 0, 0) && untouched(&l));
+    CHECK(is_at(3, READS(4, &l, "\x02\x03\x81\x06\x05"), 1, 0, 0) && untouched(&l));
+    CHECK(is_at(2, READS(0, &l, "\x03\x03\x89\x06"), 5, 0x89, 0) && untouched(&l));
+    CHECK(is_at(3, READS(0, &l, "\x02\x03\x89"), 1, 0, 0) && untouched(&l));
+    CHECK(is_at(1, READS(0, &l, "\x01\x00"), 2, 0, 0) && untouched(&l));
+    CHECK(is_at(1, READS(0, &l, "\x01\x0E"), 3, 14, 0) && untouched(&l));
+    CHECK(is_at(4, READS(4, &l, "\x06\x03\x81\x06\x03\x81\x11"), 2, 3, 3) && untouched(&l));
+    CHECK(is_at(2, READS(0, &l, "\x02\x01\x81"), 4, 0, 0) && untouched(&l));
+    CHECK(is_at(2, READS(4, &l, "\x02\x01\x81"), 4, 0, 0) && untouched(&l));
+    CHECK(is_at(3, READS(6, &l, "\x02\x01\x81"), 1, 0, 0) && untouched(&l));
+    CHECK(is_at(3, READS(0, &l, "\x02\x01\x21"), 1, 0, 0) && untouched(&l));
+    CHECK(is_at(2, READS(4, &l, "\x02\x01\x21"), 4, 0, 0) && untouched(&l));
+    CHECK(is_at(4, READS(0, &l, "\x04\x0D\x81\x00\x0E"), 3, 14, 0) && untouched(&l));
+    CHECK(is_at(1, READS(4, &l, "\x04\x0D\x81\x00\x0E"), 3, 13, 0) && untouched(&l));
+    CHECK(is_at(2, READS(6, &l, "\x03\x01\x40\x40"), 4, 0, 0) && untouched(&l));
     CHECK(is(READS(5, &l, "\x00"), 11, 5, 0) && untouched(&l));
     CHECK(is(reads(0, many, sizeof many, &l), 8, 4098, 0) && untouched(&l));
     CHECK(is(reads(4, many, sizeof many, &l), 0, 1, 0));
@@ -184,6 +212,12 @@ static void refused(void)
     rule[52] = 1, rule[0] = 3, rule[2] = 1;
     CHECK(is(krubbadin_write(0, 0, rule, 64, NULL, 0, NULL, 0, out, 4), 10, 0, 0));
     CHECK(is(krubbadin_write(1, 7, rule, 64, NULL, 0, NULL, 0, out, 4), 11, 7, 0));
+
+    /* a list of 600 values of eight octets is too long */
+    rule[2] = 600;
+    memset(many, 0x31, 599);
+    many[599] = 0xB1;
+    CHECK(is(krubbadin_write(1, 4, rule, 64, values, 600, many, 600, out, 4), 7, 5401, 0));
 }
 
 /* The octets stand in a text; plain is family 0. */
@@ -206,14 +240,14 @@ static void checked(void)
     CHECK(is(CHECKS(0, "\x02\x03\x81\x06\x05"), 0, 3, 1));
     CHECK(is(CHECKS(0, "\x00"), 0, 1, 0));
 
-    CHECK(is(krubbadin_check(0, 0, NULL, 0), 1, 0, 0));
-    CHECK(is(krubbadin_check(1, 4, NULL, 0), 1, 0, 0));
-    CHECK(is(krubbadin_check(1, 6, NULL, 0), 1, 0, 0));
-    CHECK(is(CHECKS(4, "\x06\x03\x81\x06\x03\x81\x11"), 2, 3, 3));
-    CHECK(is(CHECKS(0, "\x01\x0E"), 3, 14, 0));
-    CHECK(is(CHECKS(4, "\x04\x0D\x81\x00\x0E"), 3, 13, 0));
-    CHECK(is(CHECKS(6, "\x03\x01\x40\x40"), 4, 0, 0));
-    CHECK(is(CHECKS(0, "\x03\x03\x89\x06"), 5, 0x89, 0));
+    CHECK(is_at(0, krubbadin_check(0, 0, NULL, 0), 1, 0, 0));
+    CHECK(is_at(0, krubbadin_check(1, 4, NULL, 0), 1, 0, 0));
+    CHECK(is_at(0, krubbadin_check(1, 6, NULL, 0), 1, 0, 0));
+    CHECK(is_at(4, CHECKS(4, "\x06\x03\x81\x06\x03\x81\x11"), 2, 3, 3));
+    CHECK(is_at(1, CHECKS(0, "\x01\x0E"), 3, 14, 0));
+    CHECK(is_at(1, CHECKS(4, "\x04\x0D\x81\x00\x0E"), 3, 13, 0));
+    CHECK(is_at(2, CHECKS(6, "\x03\x01\x40\x40"), 4, 0, 0));
+    CHECK(is_at(2, CHECKS(0, "\x03\x03\x89\x06"), 5, 0x89, 0));
     CHECK(is(CHECKS(4, "\x03\x03\x89\x06"), 0, 4, 1));
     CHECK(is(krubbadin_check(0, 0, many, sizeof many), 8, 4098, 0));
     CHECK(is(krubbadin_check(1, 4, many, sizeof many), 0, 1, 0));
@@ -237,6 +271,36 @@ static void checked(void)
         CHECK(is(krubbadin_read(1, 4, port_case, 9, l.words, 64, l.values, a.second, l.octets, a.second), 0, 9, 3));
         CHECK(is(krubbadin_read(1, 4, port_case, 9, l.words, 64, l.values, a.second - 1, l.octets, a.second), 9, 3, 0));
     }
+}
+
+/* The place of each refusal of an octet, by the readings that have it. */
+static void placed(void)
+{
+    CHECK(sizeof(struct krubbadin_answer) == 32 && offsetof(struct krubbadin_answer, place) == 24);
+    CHECK(KRUBBADIN_NOWHERE + 1 == 0);
+
+    /* 1: the length; a stated end past the input; the plain walk's end is the input's, a standard walk's the stated one */
+    CHECK(is_at(1, CHECKS(4, "\xF0"), 1, 0, 0) && is_at(1, CHECKS(6, "\xFF"), 1, 0, 0));
+    CHECK(is_at(2, CHECKS(0, "\x05\x01"), 1, 0, 0) && is_at(2, CHECKS(4, "\x05\x01"), 1, 0, 0) && is_at(2, CHECKS(6, "\x05\x01"), 1, 0, 0));
+    CHECK(is_at(4, CHECKS(0, "\x01\x03\x91\x06"), 1, 0, 0));
+    CHECK(is_at(5, CHECKS(0, "\x02\x01\x18\xC0\x00"), 1, 0, 0));
+    CHECK(is_at(4, CHECKS(4, "\x03\x03\x91\x06\x50\x00"), 1, 0, 0) && is_at(4, CHECKS(6, "\x03\x03\x91\x06\x50\x00"), 1, 0, 0));
+    CHECK(is_at(3, CHECKS(4, "\x02\x01\x18\xC0\x00\x02"), 1, 0, 0));
+    CHECK(is_at(3, CHECKS(6, "\x02\x01\x40\x00"), 1, 0, 0));
+
+    /* 2 and 3: the type octet */
+    CHECK(is_at(4, CHECKS(0, "\x06\x05\x81\x50\x04\x81\x19"), 2, 5, 4) && is_at(4, CHECKS(6, "\x06\x05\x81\x50\x04\x81\x19"), 2, 5, 4));
+    CHECK(is_at(2, CHECKS(4, "\xF0\x01\x00"), 2, 0, 0));
+    CHECK(is_at(4, CHECKS(0, "\x04\x03\x81\x06\x0E"), 3, 14, 0) && is_at(4, CHECKS(6, "\x04\x03\x81\x06\x0E"), 3, 14, 0));
+
+    /* 4: the prefix's length octet, in IPv6 whether it is the length or the offset that does not fit */
+    CHECK(is_at(5, CHECKS(0, "\x05\x01\x08\x0A\x02\xFF"), 4, 0, 0) && is_at(5, CHECKS(4, "\x05\x01\x08\x0A\x02\xFF"), 4, 0, 0));
+    CHECK(is_at(2, CHECKS(6, "\x03\x01\x81\x00"), 4, 0, 0) && is_at(2, CHECKS(6, "\x03\x01\x00\x01"), 4, 0, 0));
+    CHECK(is_at(5, CHECKS(6, "\x06\x01\x00\x00\x02\x40\x41"), 4, 0, 0));
+
+    /* 5: the operator octet; numeric, bitmask */
+    CHECK(is_at(6, CHECKS(0, "\x08\x05\x03\x50\x45\x5A\x99\x01\xBB"), 5, 0x99, 0));
+    CHECK(is_at(4, CHECKS(0, "\x05\x0C\x01\x01\x84\x01"), 5, 0x84, 0));
 }
 
 static void matched(void)
@@ -391,6 +455,7 @@ int main(void)
     accepted();
     refused();
     checked();
+    placed();
     matched();
     ranked();
     chosen();

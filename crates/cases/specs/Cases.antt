@@ -5,7 +5,7 @@ use Prim.Native.Nat.{ℕ, _^_}
 use mathlib.Core.Path.{_≡_, refl}
 use mathlib.Core.Bool.{Bool, true, false}
 use mathlib.Core.List.{List, [], _∷_, _++_, map}
-use Rattle.ground.specs.Answers.{Answer, accepts, refuses}
+use Rattle.ground.specs.Answers.{Answer, accepts, refusesAt}
 use Rattle.choices.specs.declared.Reading.{Reading}
 use Rattle.choices.specs.declared.Reading.the-variants.{Plain, Ipv4, Ipv6}
 use Rattle.choices.specs.Choices.{refusedIn, familyOf, standardOf}
@@ -68,8 +68,9 @@ in-all input a = in-one Plain input (a Plain) ++ in-one Ipv4 input (a Ipv4) ++ i
 abbrev rule : List Piece → List Op → ℕ → Reading → Answer ReadRule
 rule ps os used reading = accepts (record { pieces = ps; operators = os; family = familyOf reading; used = used })
 
-abbrev refused : ℕ → List ℕ → Reading → Answer ReadRule
-refused number carried reading = refuses number carried
+-- a refusal at a place: document 02, W-202
+abbrev refused : ℕ → List ℕ → ℕ → Reading → Answer ReadRule
+refused number carried at reading = refusesAt number carried at
 
 abbrev protocol-6 : Reading → Answer ReadRule
 protocol-6 = rule (Operators 3 0 1 ∷ []) (op 0x81 6 ∷ []) 4
@@ -86,9 +87,9 @@ to-port n = from-to 1024 n
 pub rows : List Case
 rows =
     -- empty; F0; EF: 1
-    in-all [] (refused 1 [])
-    ++ in-all (0xF0 ∷ []) (refused 1 [])
-    ++ in-all (0xEF ∷ []) (refused 1 [])
+    in-all [] (refused 1 [] 0)
+    ++ in-all (0xF0 ∷ []) (refused 1 [] 1)
+    ++ in-all (0xEF ∷ []) (refused 1 [] 1)
     -- 00: no components, used 1
     ++ in-all (0x00 ∷ []) (rule [] [] 1)
     -- .. It matches every packet
@@ -103,24 +104,28 @@ rows =
     ++ case (rewrite Ipv4 (0xF0 ∷ 0x05 ∷ 0x01 ∷ 0x18 ∷ 0xC0 ∷ 0x00 ∷ 0x02 ∷ [])) (octets-are (accepts (0x05 ∷ 0x01 ∷ 0x18 ∷ 0xC0 ∷ 0x00 ∷ 0x02 ∷ [])))
     -- 02 03 81 06 05: plain gives protocol 6; standard 1
     ++ in-one Plain (0x02 ∷ 0x03 ∷ 0x81 ∷ 0x06 ∷ 0x05 ∷ []) (rule (Operators 3 0 1 ∷ []) (op 0x81 6 ∷ []) 3 Plain)
-    ++ in-one Ipv4 (0x02 ∷ 0x03 ∷ 0x81 ∷ 0x06 ∷ 0x05 ∷ []) (refuses 1 [])
-    ++ in-one Ipv6 (0x02 ∷ 0x03 ∷ 0x81 ∷ 0x06 ∷ 0x05 ∷ []) (refuses 1 [])
+    ++ in-one Ipv4 (0x02 ∷ 0x03 ∷ 0x81 ∷ 0x06 ∷ 0x05 ∷ []) (refusesAt 1 [] 3)
+    ++ in-one Ipv6 (0x02 ∷ 0x03 ∷ 0x81 ∷ 0x06 ∷ 0x05 ∷ []) (refusesAt 1 [] 3)
     -- 03 03 89 06: plain 5 (0x89); standard as 03 03 81 06. 02 03 89: 1 in both
-    ++ in-one Plain (0x03 ∷ 0x03 ∷ 0x89 ∷ 0x06 ∷ []) (refuses 5 (0x89 ∷ []))
+    ++ in-one Plain (0x03 ∷ 0x03 ∷ 0x89 ∷ 0x06 ∷ []) (refusesAt 5 (0x89 ∷ []) 2)
     ++ in-one Ipv4 (0x03 ∷ 0x03 ∷ 0x89 ∷ 0x06 ∷ []) (protocol-6 Ipv4)
     ++ in-one Ipv6 (0x03 ∷ 0x03 ∷ 0x89 ∷ 0x06 ∷ []) (protocol-6 Ipv6)
     ++ in-all (0x03 ∷ 0x03 ∷ 0x81 ∷ 0x06 ∷ []) protocol-6
-    ++ in-all (0x02 ∷ 0x03 ∷ 0x89 ∷ []) (refused 1 [])
+    ++ in-all (0x02 ∷ 0x03 ∷ 0x89 ∷ []) (refused 1 [] 3)
+    -- .. W-202: in 02 03 91 00 a value's second octet is missing, in the plain reading at the input's end, in a standard one at the stated end
+    ++ in-one Plain (0x02 ∷ 0x03 ∷ 0x91 ∷ 0x00 ∷ []) (refusesAt 1 [] 4)
+    ++ in-one Ipv4 (0x02 ∷ 0x03 ∷ 0x91 ∷ 0x00 ∷ []) (refusesAt 1 [] 3)
+    ++ in-one Ipv6 (0x02 ∷ 0x03 ∷ 0x91 ∷ 0x00 ∷ []) (refusesAt 1 [] 3)
     -- 01 00: 2 (0, 0). 01 0E: 3 (14). 06 03 81 06 03 81 11: 2 (3, 3)
-    ++ in-all (0x01 ∷ 0x00 ∷ []) (refused 2 (0 ∷ 0 ∷ []))
-    ++ in-all (0x01 ∷ 0x0E ∷ []) (refused 3 (14 ∷ []))
-    ++ in-all (0x06 ∷ 0x03 ∷ 0x81 ∷ 0x06 ∷ 0x03 ∷ 0x81 ∷ 0x11 ∷ []) (refused 2 (3 ∷ 3 ∷ []))
+    ++ in-all (0x01 ∷ 0x00 ∷ []) (refused 2 (0 ∷ 0 ∷ []) 1)
+    ++ in-all (0x01 ∷ 0x0E ∷ []) (refused 3 (14 ∷ []) 1)
+    ++ in-all (0x06 ∷ 0x03 ∷ 0x81 ∷ 0x06 ∷ 0x03 ∷ 0x81 ∷ 0x11 ∷ []) (refused 2 (3 ∷ 3 ∷ []) 4)
     -- 03 01 04 FF: plain 255.0.0.0/4, standard IPv4 240.0.0.0/4
     ++ in-one Plain (0x03 ∷ 0x01 ∷ 0x04 ∷ 0xFF ∷ []) (rule (Prefix 1 (V4 4 0xFF000000) ∷ []) [] 4 Plain)
     ++ in-one Ipv4 (0x03 ∷ 0x01 ∷ 0x04 ∷ 0xFF ∷ []) (rule (Prefix 1 (V4 4 0xF0000000) ∷ []) [] 4 Ipv4)
     -- IPv6 04 01 41 3F C0: offset 63, length 65, bits 63 and 64 set. 03 01 40 40: 4. 03 01 00 00: every address
     ++ in-one Ipv6 (0x04 ∷ 0x01 ∷ 0x41 ∷ 0x3F ∷ 0xC0 ∷ []) (rule (Prefix 1 (Ipv6Offset 65 63 1 (2 ^ 63)) ∷ []) [] 5 Ipv6)
-    ++ in-one Ipv6 (0x03 ∷ 0x01 ∷ 0x40 ∷ 0x40 ∷ []) (refuses 4 [])
+    ++ in-one Ipv6 (0x03 ∷ 0x01 ∷ 0x40 ∷ 0x40 ∷ []) (refusesAt 4 [] 2)
     ++ in-one Ipv6 (0x03 ∷ 0x01 ∷ 0x00 ∷ 0x00 ∷ []) (rule (Prefix 1 (Ipv6Offset 0 0 0 0) ∷ []) [] 4 Ipv6)
     -- 08 05 03 50 45 5A 91 01 BB: destination ports 80, 90 and 443 match, 79 and 91 don't
     ++ in-one Ipv4 port-case

@@ -5,6 +5,7 @@ ghost use Rattle.choices.specs.Choices.{boundOf, lastType, limitOf, firs
 use operators::Kind;
 use refusals::Fault;
 use refusals::FlowSpecError;
+use refusals::Place;
 
 // The plain reading follows the Rust; the others follow RFC 8955 (IPv4) and RFC 8956 (IPv6).
 pub enum Reading {
@@ -78,6 +79,7 @@ pub fn reading_of(family: u8) -> Standard
     }
     Standard::Refused(Fault {
         error: FlowSpecError::BadFamily(family),
+        place: Place::Nowhere,
     })
 }
 

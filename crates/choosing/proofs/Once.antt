@@ -9,7 +9,7 @@ use Rattle.choosing.specs.Choosing.{Choice, place, none, toldChosen}
 abbrev chosenOf : Answer Choice → Chosen
 chosenOf (accepts (place i)) = Rule i
 chosenOf (accepts none) = NoRule
-chosenOf (declines f) = Refused (faultOf (f .number) (f .carried))
+chosenOf (declines f) = Refused (faultOf f)
 
 chosen-back : (a : Chosen) → chosenOf (toldChosen a) ≡ a
 chosen-back (Rule i) = refl

@@ -12,6 +12,7 @@ ghost use Rattle.choosing.specs.Passes.{foundOr, rankedOf, betterOf, fou
 use ranking::Order;
 use refusals::Fault;
 use refusals::FlowSpecError;
+use refusals::Place;
 
 // The place of the rule that decides, or that none matches.
 pub enum Chosen {
@@ -126,9 +127,12 @@ fn find(
 }
 
 fn refused(error: FlowSpecError) -> Chosen
-    ensures { λ r. ⌜ r ≡ Chosen.Refused (record { error = error }) ⌝ }
+    ensures { λ r. ⌜ r ≡ Chosen.Refused (record { error = error; place = Place.Nowhere }) ⌝ }
 {
-    Chosen::Refused(Fault { error: error })
+    Chosen::Refused(Fault {
+        error: error,
+        place: Place::Nowhere,
+    })
 }
 
 // Of the rules in the words, 64 words each, with their operators in the two lists: the one that decides on the packet.

@@ -9,7 +9,7 @@ use native.Mathlib.Omega.{arith}
 use borrow.Author.Tests.{le-ltb}
 use lib.Dec.{ltb, leb}
 use lib.ListN.{length}
-use Rattle.ground.specs.Answers.{Refused as Refusal, Answer, accepts, refuses, declines}
+use Rattle.ground.specs.Answers.{nowhere, Refused as Refusal, refused, Answer, accepts, refuses, declines}
 use Rattle.ground.proofs.Answers.{never}
 use Rattle.ground.proofs.Cases.{by-test}
 use Rattle.refusals.specs.declared.FlowSpecError.{FlowSpecError}
@@ -60,7 +60,7 @@ numbered (Outer o) e = outer-numbered o e
 
 -- the refusal that an answer is
 abbrev pub refusalIn : Answer ReadRule → Refusal
-refusalIn (accepts r) = record { number = 0; carried = [] }
+refusalIn (accepts r) = refused 0 [] nowhere
 refusalIn (declines f) = f
 
 -- what is told of a reading has status 0 just where it is accepted
@@ -75,7 +75,7 @@ told-taken a (accepts r) e i = rw e
 told-taken a (declines f) e i = absurd (false≢true i)
 
 -- and any other status
-pub told-refused : (a : KrubbadinAnswer) (d : Answer ReadRule) → a ≡ readAnswer (takenOf d) → (a .status ≡ 0 → ⊥) → refuses (refusalIn d .number) (refusalIn d .carried) ≡ takenOf d
+pub told-refused : (a : KrubbadinAnswer) (d : Answer ReadRule) → a ≡ readAnswer (takenOf d) → (a .status ≡ 0 → ⊥) → declines (refusalIn d) ≡ takenOf d
 told-refused a (accepts r) e z = absurd (z (ap (λ (x : KrubbadinAnswer). x .status) e))
 told-refused a (declines f) e z = refl
 

@@ -12,7 +12,7 @@ use Rattle.operators.specs.declared.BitmaskOperator.{BitmaskOperator}
 use Rattle.operators.specs.Operators.{isSet, weightOf, numericFrom, bitmaskFrom, numericOctet, bitmaskOctet, comparing, masking}
 use Rattle.krubbadin.specs.declared.KrubbadinAnswer.{KrubbadinAnswer}
 use Rattle.krubbadin.specs.declared.single.KrubbadinOperator.{KrubbadinOperator}
-use Rattle.krubbadin.specs.Surface.{refusedWith}
+use Rattle.krubbadin.specs.Surface.{givenWith, refusedWith}
 
 abbrev numbers : ℕ → ℕ → Bool → Bool → ℕ → ℕ → ℕ → KrubbadinOperator
 numbers status carried end also width flags value =
@@ -52,8 +52,8 @@ operatorRead bitmask octet value = pick (eqb bitmask 0) (numericAnswer (numericF
 -- ---- a record's octet
 
 abbrev pub octetAnswer : Answer ℕ → KrubbadinAnswer
-octetAnswer (accepts octet) = record { status = 0; first = octet; second = 0 }
-octetAnswer (declines f) = refusedWith (f .number) (f .carried)
+octetAnswer (accepts octet) = givenWith octet 0
+octetAnswer (declines f) = refusedWith f
 
 abbrev pub mostFlags : ℕ → ℕ
 mostFlags bitmask = pick (eqb bitmask 0) 7 3

@@ -4,7 +4,8 @@ ghost use Rattle.operators.specs.Operators.{weightOf};
 ghost use Rattle.packets.specs.Packets.{packetAt};
 ghost use Rattle.verdicts.specs.Verdicts.{matchVerdict, rankVerdict, toldMatched, toldRanked};
 ghost use Rattle.choosing.specs.Choosing.{table, chosenIn, toldChosen};
-ghost use Rattle.krubbadin.specs.Deciding.{givenWith, orderNumber, matchAnswer, rankAnswer, choiceAnswer};
+ghost use Rattle.krubbadin.specs.Surface.{givenWith};
+ghost use Rattle.krubbadin.specs.Deciding.{orderNumber, matchAnswer, rankAnswer, choiceAnswer};
 use crate::KrubbadinAnswer;
 use choosing::Chosen;
 use ranking::Order;
@@ -18,6 +19,7 @@ fn given(first: u64, second: u64) -> KrubbadinAnswer
         status: 0,
         first: first,
         second: second,
+        place: crate::NOWHERE,
     }
 }
 

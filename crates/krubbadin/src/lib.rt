@@ -7,38 +7,55 @@ ghost use lib.ListN.{length};
 ghost use lib.Seq.{sets};
 ghost use Rattle.operators.specs.Ops.{octetOf, numberOf};
 ghost use Rattle.choices.specs.Choices.{toldStandard};
-ghost use Rattle.refusals.specs.Refusals.{numberOf as errorNumber, carriedOf};
+ghost use Rattle.refusals.specs.Refusals.{told, placeOf};
 ghost use Rattle.reading.specs.Readings.{toldInto, readAt, readInto, byReading, takenOf, wordsOf, operatorsOf};
 ghost use Rattle.measuring.specs.Grounds.{counted};
 ghost use Rattle.writing.specs.Writings.{toldWritten, octetsIn};
 ghost use Rattle.reading.specs.Parts.{isRead};
-ghost use Rattle.krubbadin.specs.Surface.{refusedWith, readAnswer, whichOf, byCheck, writtenAnswer, byWriting};
+ghost use Rattle.krubbadin.specs.Surface.{placeNumber, refusedWith, readAnswer, whichOf, byCheck, writtenAnswer, byWriting};
 use choices::Reading;
 use choices::Standard;
 use reading::ReadInto;
 use refusals::Fault;
+use refusals::Place;
 use writing::Written;
 
 mod deciding;
 mod single;
 
-// What a call answers: status 0 and what it gives, or the refusal's number and what it carries, 0 where there is nothing to tell.
+// What a call answers: status 0 and what it gives, or the refusal's number and what it carries, 0 where there is nothing to tell; and the place
+// of the octet that was refused.
 #[repr(C)]
 pub struct KrubbadinAnswer {
     pub status: u64,
     pub first: u64,
     pub second: u64,
+    pub place: u64,
+}
+
+// The place of an answer that has none: all ones. No place in an input is as large.
+const NOWHERE: u64 = 0xFFFF_FFFF_FFFF_FFFF;
+
+fn place_number(place: Place) -> u64
+    ensures { λ r. ⌜ r ≡ placeNumber (placeOf place) ⌝ }
+{
+    match place {
+        Place::Nowhere => NOWHERE,
+        Place::Octet(at) => at as u64,
+    }
 }
 
 fn refused(fault: Fault) -> KrubbadinAnswer
-    ensures { λ r. ⌜ r ≡ refusedWith (errorNumber (fault .error)) (carriedOf (fault .error)) ⌝ }
+    ensures { λ r. ⌜ r ≡ refusedWith (told fault) ⌝ }
 {
     let error = fault.error;
+    let place = fault.place;
     let n = refusals::numbered(error);
     KrubbadinAnswer {
         status: n.number as u64,
         first: n.first,
         second: n.second,
+        place: place_number(place),
     }
 }
 
@@ -50,6 +67,7 @@ fn read_answer(r: ReadInto) -> KrubbadinAnswer
             status: 0,
             first: used as u64,
             second: operators as u64,
+            place: NOWHERE,
         },
         ReadInto::Refused(fault) => refused(fault),
     }
@@ -78,7 +96,8 @@ pub extern "C" fn krubbadin_check(standard: u8, family: u8, input: &[u8]) -> Kru
     }
 }
 
-// What was checked, to the lent words and lists, where there is room.
+// What was checked, to the lent words and lists, where there is room. The answer is made anew: of one that is passed on, the compiler loads
+// `second` and `place` at once, which waits for both to be stored.
 fn store_checked(
     reading: Reading,
     input: &[u8],
@@ -104,6 +123,7 @@ fn store_checked(
             status: 9,
             first: lack as u64,
             second: 0,
+            place: NOWHERE,
         };
     }
     reading::store(
@@ -115,7 +135,12 @@ fn store_checked(
         octets,
         0,
     );
-    checked
+    KrubbadinAnswer {
+        status: 0,
+        first: checked.first,
+        second: checked.second,
+        place: NOWHERE,
+    }
 }
 
 // Reads an NLRI: its rule to the first 64 words, its operators to the two lists. With `standard` 0 it is the
@@ -153,6 +178,7 @@ fn write_answer(r: Written) -> KrubbadinAnswer
             status: 0,
             first: n as u64,
             second: 0,
+            place: NOWHERE,
         },
         Written::Refused(fault) => refused(fault),
     }

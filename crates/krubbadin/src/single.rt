@@ -12,6 +12,7 @@ use operators::NumericRead;
 use operators::OctetMade;
 use refusals::Fault;
 use refusals::FlowSpecError;
+use refusals::Place;
 
 // An operator record, 1 where a flag is set. `flags` are numeric 4 less, 2 greater, 1 equal; bitmask 2 NOT, 1 match. Where `status` is a
 // refusal's number, `carried` is what it carries and all else is 0.
@@ -114,6 +115,7 @@ fn octet_answer(r: OctetMade) -> KrubbadinAnswer
             status: 0,
             first: octet as u64,
             second: 0,
+            place: crate::NOWHERE,
         },
         OctetMade::Refused(fault) => crate::refused(fault),
     }
@@ -171,6 +173,7 @@ pub extern "C" fn krubbadin_operator_write(
         status: 10,
         first: 0,
         second: 0,
+        place: crate::NOWHERE,
     }
 }
 
@@ -187,6 +190,7 @@ pub extern "C" fn krubbadin_operator_make(which: u8, value: u64) -> KrubbadinOpe
         3 => bitmask_numbers(BitmaskOperator::partial_match(value)),
         _ => no_operator(Fault {
             error: FlowSpecError::BadRecord,
+            place: Place::Nowhere,
         }),
     }
 }

@@ -9,7 +9,7 @@ use Rattle.listing.specs.Listings.{toldListed}
 
 abbrev listedOf : Answer ℕ → Listed
 listedOf (accepts n) = Octets n
-listedOf (declines f) = Refused (faultOf (f .number) (f .carried))
+listedOf (declines f) = Refused (faultOf f)
 
 listed-back : (a : Listed) → listedOf (toldListed a) ≡ a
 listed-back (Octets n) = refl

@@ -5,9 +5,10 @@ use mathlib.Core.List.{List, [], _∷_, _++_}
 use native.Mathlib.Omega.{arith}
 use lib.Dec.{leb}
 use lib.ListN.{length, getD, length-append}
+use Rattle.ground.specs.Answers.{Place, nowhere, at-octet}
 use Rattle.ground.specs.Picks.{pick}
 use Rattle.refusals.specs.declared.Fault.{Fault}
-use Rattle.refusals.specs.Refusals.{numberOf, carriedOf}
+use Rattle.refusals.specs.Refusals.{numberOf, carriedOf, placeOf, told}
 use Rattle.operators.specs.Ops.{Op, op, opsIn}
 use Rattle.rules.specs.declared.NetworkPrefix.{NetworkPrefix}
 use Rattle.rules.specs.declared.NetworkPrefix.the-variants.{Ipv4, Ipv6, Ipv4Offset, Ipv6Offset}
@@ -17,7 +18,7 @@ use Rattle.reading.specs.declared.ReadInto.{ReadInto}
 use Rattle.reading.specs.declared.ReadInto.the-variants.{Read, Refused}
 use Rattle.reading.specs.Readings.{toldInto}
 use Rattle.listing.specs.Texts.{ascii, digit, decimalFrom, decimal, commas, dotted}
-use Rattle.listing.specs.Listings.{numberLine, typeLine, opsLine, opLine, opLines, prefixLine, pieceLines, componentLines, ruleLines, refusalLines}
+use Rattle.listing.specs.Listings.{numberLine, typeLine, opsLine, opLine, opLines, prefixLine, pieceLines, componentLines, ruleLines, placeLine, refusalLines}
 use Rattle.listing.specs.Puts.{linesOf}
 use Rattle.listing.proofs.Carried.{carried-most}
 use Rattle.listing.proofs.RulesBacked.{countIn, allCounts}
@@ -102,12 +103,17 @@ rule-most used ps values octets h w =
     let l = components-most values octets ps in
     simp length-append (omega arith)
 
-refusal-most : (f : Fault) → length (refusalLines (numberOf (f .error)) (carriedOf (f .error))) ≤ 65536
+place-most : (p : Place) → length (placeLine p) ≤ 27
+place-most nowhere = omega arith
+place-most (at-octet at) = number-most (ascii "place=") at
+
+refusal-most : (f : Fault) → length (refusalLines (told f)) ≤ 65536
 unfolding refusalLines
 refusal-most f =
     let a = number-most (ascii "status=") (numberOf (f .error)) in
     let b = commas-most (carriedOf (f .error)) in
     let d = carried-most (f .error) in
+    let p = place-most (placeOf (f .place)) in
     simp length-append (omega arith)
 
 pub lines-most : (read : ReadInto) (ps : List Piece) (values octets : List ℕ) → length ps ≤ 13 → allCounts ps ≤ 2047 → length (linesOf (toldInto read) ps values octets) ≤ 65536

@@ -3,7 +3,7 @@ use Prim.Native.Nat.{ℕ}
 use mathlib.Core.List.{List, [], _∷_, _++_, map}
 use lib.Dec.{ltb}
 use lib.ListN.{length}
-use Rattle.ground.specs.Answers.{Answer, accepts, refuses, declines}
+use Rattle.ground.specs.Answers.{Place, nowhere, at-octet, Refused, Answer, accepts, refuses, declines}
 use Rattle.ground.specs.Picks.{pick}
 use Rattle.refusals.specs.Refusals.{refusal}
 use Rattle.choices.specs.declared.Reading.the-variants.{Ipv4}
@@ -14,7 +14,7 @@ use Rattle.stored.specs.declared.Piece.{Piece}
 use Rattle.stored.specs.declared.Piece.the-variants.{Prefix, Operators, NoRecord}
 use Rattle.reading.specs.Readings.{ReadRule, readAt}
 use Rattle.listing.specs.declared.Listed.{Listed}
-use Rattle.listing.specs.declared.Listed.the-variants.{Octets, Refused}
+use Rattle.listing.specs.declared.Listed.the-variants.{Octets, Refused as NotListed}
 use Rattle.listing.specs.Texts.{ascii, hex, decimal, commas, dotted}
 
 -- a line of a key and a number
@@ -58,6 +58,11 @@ prefixLine (Ipv6Offset len off h l) = []
 abbrev pub detailLine : List ℕ → List ℕ
 detailLine ns = ascii "detail=" ++ commas ns ++ ascii "\n"
 
+-- "flowlist prints `place` after `detail`, empty for 8" (document 02, W-202)
+abbrev pub placeLine : Place → List ℕ
+placeLine nowhere = ascii "place=\n"
+placeLine (at-octet at) = numberLine (ascii "place=") at
+
 -- a component, of which the operators stand in the two lists; "A prefix component has `prefix=` .. for its ops lines"
 abbrev pub pieceLines : List ℕ → List ℕ → Piece → List ℕ
 pieceLines values octets (Prefix t p) = typeLine t ++ prefixLine p
@@ -73,12 +78,12 @@ unfoldable pub ruleLines : ℕ → List Piece → List ℕ → List ℕ → List
 ruleLines used ps values octets =
     readingLine ++ statusLine 0 ++ usedLine used ++ componentsLine (length ps) ++ componentLines values octets ps
 
-unfoldable pub refusalLines : ℕ → List ℕ → List ℕ
-refusalLines number carried = readingLine ++ statusLine number ++ detailLine carried
+unfoldable pub refusalLines : Refused → List ℕ
+refusalLines f = readingLine ++ statusLine (f .number) ++ detailLine (f .carried) ++ placeLine (f .place)
 
 abbrev pub answerLines : Answer ReadRule → List ℕ
 answerLines (accepts r) = ruleLines (r .used) (r .pieces) (map numberOf (r .operators)) (map octetOf (r .operators))
-answerLines (declines f) = refusalLines (f .number) (f .carried)
+answerLines (declines f) = refusalLines f
 
 -- "Over 4,097 octets of input prints status 8 with detail 4098, since it stops reading there"
 unfoldable pub listedAt : List ℕ → Answer ReadRule
@@ -103,4 +108,4 @@ octetsIn (declines f) = []
 
 abbrev pub toldListed : Listed → Answer ℕ
 toldListed (Octets n) = accepts n
-toldListed (Refused f) = refusal f
+toldListed (NotListed f) = refusal f

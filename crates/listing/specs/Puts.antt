@@ -44,4 +44,4 @@ carriedIn n = take (n .count) (n .first ∷ n .second ∷ [])
 -- the lines of an answer as the code has it, with the pieces that came beside it
 abbrev pub linesOf : Answer Taken → List Piece → List ℕ → List ℕ → List ℕ
 linesOf (accepts t) ps values octets = ruleLines (t .used) ps values octets
-linesOf (declines f) ps values octets = refusalLines (f .number) (f .carried)
+linesOf (declines f) ps values octets = refusalLines f

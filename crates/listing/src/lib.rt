@@ -8,18 +8,19 @@ ghost use Prim.Native.Nat.{_+_, _≤_, _<_};
 ghost use lib.ListN.{length, take};
 ghost use lib.Seq.{sets};
 ghost use Rattle.ground.specs.Picks.{pick};
-ghost use Rattle.refusals.specs.Refusals.{numberOf, carriedOf};
+ghost use Rattle.refusals.specs.Refusals.{told, placeOf};
 ghost use Rattle.operators.specs.Ops.{op, opsIn, octetOf, numberOf as valueOf};
 ghost use Rattle.stored.specs.Stored.{storedAt};
 ghost use Rattle.reading.specs.Readings.{toldInto, takenOf, wordsOf, operatorsOf};
 ghost use Rattle.listing.specs.Texts.{digit as Texts·digit, hex, decimal, commas, dotted};
-ghost use Rattle.listing.specs.Listings.{numberLine, opLine, opLines, prefixLine, pieceLines, componentLines, ruleLines, refusalLines, listedAt, listingOf, listedInto, countedIn, octetsIn, toldListed};
+ghost use Rattle.listing.specs.Listings.{numberLine, opLine, opLines, prefixLine, pieceLines, componentLines, ruleLines, placeLine, refusalLines, listedAt, listingOf, listedInto, countedIn, octetsIn, toldListed};
 ghost use Rattle.listing.specs.Puts.{Placeable, Put, Backed, Listable, carriedIn, linesOf};
 use choices::Reading;
 use reading::ReadInto;
 use refusals::Fault;
 use refusals::FlowSpecError;
 use refusals::Numbers;
+use refusals::Place;
 use rules::NetworkPrefix;
 use stored::Piece;
 
@@ -271,18 +272,31 @@ fn put_carried(numbers: Numbers, out: &mut [u8], at: usize) -> usize
     put_decimal(numbers.second, out, second)
 }
 
+// The place of a refusal, empty where it has none.
+fn put_place(place: Place, out: &mut [u8], at: usize) -> usize
+    requires { ⌜ Placeable at (placeLine (placeOf place)) ⌝ }
+    ensures { λ r. ⌜ Put (now (out .entry)) at (placeLine (placeOf place)) (now (out .exit)) r ⌝ }
+{
+    match place {
+        Place::Nowhere => put_text(b"place=\n", out, at),
+        Place::Octet(octet) => put_number_line(b"place=", octet as u64, out, at),
+    }
+}
+
 // The listing of a refusal.
 fn put_refusal(fault: Fault, out: &mut [u8]) -> usize
-    requires { ⌜ Placeable 0 (refusalLines (numberOf (fault .error)) (carriedOf (fault .error))) ⌝ }
-    ensures { λ r. ⌜ Put (now (out .entry)) 0 (refusalLines (numberOf (fault .error)) (carriedOf (fault .error))) (now (out .exit)) r ⌝ }
+    requires { ⌜ Placeable 0 (refusalLines (told fault)) ⌝ }
+    ensures { λ r. ⌜ Put (now (out .entry)) 0 (refusalLines (told fault)) (now (out .exit)) r ⌝ }
 {
     let error = fault.error;
+    let place = fault.place;
     let numbers = refusals::numbered(error);
     let status = put_text(b"reading=ipv4\n", out, 0);
     let detail = put_number_line(b"status=", numbers.number as u64, out, status);
     let first = put_text(b"detail=", out, detail);
     let end = put_carried(numbers, out, first);
-    put(b'\n', out, end)
+    let last = put(b'\n', out, end);
+    put_place(place, out, last)
 }
 
 // The listing of what was read. The rule's words stand beside the answer, and are not looked at beside a refusal.
@@ -308,6 +322,7 @@ fn read_listed(input: &[u8], words: &mut [u64], values: &mut [u64], octets: &mut
     if 4097 < input.len() {
         return ReadInto::Refused(Fault {
             error: FlowSpecError::InputTooLong(4098),
+            place: Place::Nowhere,
         });
     }
     reading::read_into(Reading::Ipv4, input, words, values, octets)
@@ -328,6 +343,7 @@ pub fn list(input: &[u8], out: &mut [u8]) -> Listed
     if out.len() < needed {
         return Listed::Refused(Fault {
             error: FlowSpecError::NoRoom(needed),
+            place: Place::Nowhere,
         });
     }
     put_answer(read, &words, &values, &octets, out);

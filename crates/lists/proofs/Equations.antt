@@ -10,9 +10,9 @@ use native.Mathlib.Omega.{arith}
 use native.Mathlib.Decide.{decLt}
 use lib.ListN.{length, getD}
 use lib.Dec.{leb}
-use Rattle.ground.specs.Answers.{Answer, Refused, accepts, refuses, declines}
+use Rattle.ground.specs.Answers.{Answer, Refused, at-octet, refused, accepts, refusesAt, declines}
 use Rattle.ground.specs.Picks.{pick}
-use Rattle.ground.proofs.Answers.{never}
+use Rattle.ground.proofs.Answers.{never, same-refusal}
 use Rattle.ground.proofs.Cases.{by-cases}
 use Rattle.octets.specs.Widths.{widthOf}
 use Rattle.choices.specs.declared.Reading.{Reading}
@@ -20,12 +20,12 @@ use Rattle.choices.specs.Choices.{refusedIn}
 use Rattle.operators.specs.Ops.{kindOf, Op}
 use Rattle.lists.specs.declared.Tally.{Tally}
 use Rattle.lists.specs.Lists.{tally, plus, opAt, afterOp, operatorAt, turn, listFrom, listAt, isAccepted, opsTurn, opsFrom, opsAt}
-use Rattle.lists.proofs.Operators.{operator-missing, operator-cut, operator-refused, same-refusal, operator-refuses}
+use Rattle.lists.proofs.Operators.{operator-missing, operator-cut, operator-refused, operator-refuses}
 
 -- ---- the bound
 
 module _ (r : Reading) (t : ℕ) (s : List ℕ) where
-  no-list : (k at : ℕ) → length s ≤ at → listFrom r t k s at ≡ refuses 1 []
+  no-list : (k at : ℕ) → length s ≤ at → listFrom r t k s at ≡ refusesAt 1 [] (length s)
   unfolding listFrom
   no-list zero at h = refl
   no-list (suc k) at h = rw (operator-missing r t s at h)
@@ -76,13 +76,13 @@ module _ (r : Reading) (t : ℕ) (s : List ℕ) (at : ℕ) where
   list-stops e = by-operator e
 
   -- no octet; an octet without all of its value; reserved bits that are refused
-  pub list-missing : length s ≤ at → listAt r t s at ≡ refuses 1 []
+  pub list-missing : length s ≤ at → listAt r t s at ≡ refusesAt 1 [] (length s)
   list-missing h = by-operator (operator-missing r t s at h)
 
-  pub list-cut : at < length s → length s ≤ at + widthOf (getD s at 0) → listAt r t s at ≡ refuses 1 []
+  pub list-cut : at < length s → length s ≤ at + widthOf (getD s at 0) → listAt r t s at ≡ refusesAt 1 [] (length s)
   list-cut h k = by-operator (operator-cut r t s at h k)
 
-  pub list-refused : at + widthOf (getD s at 0) < length s → refusedIn r (kindOf t) (getD s at 0) ≡ true → listAt r t s at ≡ refuses 5 (getD s at 0 ∷ [])
+  pub list-refused : at + widthOf (getD s at 0) < length s → refusedIn r (kindOf t) (getD s at 0) ≡ true → listAt r t s at ≡ refusesAt 5 (getD s at 0 ∷ []) at
   list-refused h e = by-operator (operator-refused r t s at h e)
 
   -- an operator that is taken: the last, or one more
@@ -98,19 +98,19 @@ pub with-tally : {A : Type 0} (a : Answer Tally) → isAccepted a ≡ true → (
 with-tally (accepts l) e f = f l refl
 with-tally (declines g) e f = let z : _≡_ {A = ℕ} 0 1 = cc in absurd (omega arith)
 
--- what a list refuses by: 1, or 5 where the reading refuses an octet
-plus-refuses : (n : ℕ) (a : Answer Tally) {f : Refused} → plus n a ≡ declines f → a ≡ declines f
+-- what a list is refused by: 1 at the octets' end, or 5 at an octet that the reading refuses
+pub plus-refuses : (n : ℕ) (a : Answer Tally) {f : Refused} → plus n a ≡ declines f → a ≡ declines f
 plus-refuses n (accepts l) e = never (sym e)
 plus-refuses n (declines g) e = e
 
-module _ (r : Reading) (t : ℕ) (s : List ℕ) (P : Refused → Type 0) (one : P (record { number = 1; carried = [] }))
-    (five : (x : ℕ) → refusedIn r (kindOf t) x ≡ true → P (record { number = 5; carried = x ∷ [] })) where
+module _ (r : Reading) (t : ℕ) (s : List ℕ) (P : Refused → Type 0) (one : P (refused 1 [] (at-octet (length s))))
+    (five : (i : ℕ) → refusedIn r (kindOf t) (getD s i 0) ≡ true → P (refused 5 (getD s i 0 ∷ []) (at-octet i))) where
   by-answer : (at : ℕ) {f : Refused} → listAt r t s at ≡ declines f → ((o : Op) → listAt r t s (afterOp at o) ≡ declines f → P f) → (a : Answer Op) → operatorAt r t s at ≡ a → P f
   by-answer at e ih (accepts o) i =
       by-cases (decLt (o .octet) 128)
       (λ h. ih o (plus-refuses 1 (listAt r t s (afterOp at o)) (sym (list-more r t s at i h) ∙ e)))
       (λ h. never (sym e ∙ list-last r t s at i (omega (arith, h))))
-  by-answer at e ih (declines g) i = operator-refuses r t s at P one five (i ∙ ap declines (same-refusal (sym (list-stops r t s at i) ∙ e)))
+  by-answer at e ih (declines g) i = operator-refuses r t s at P one (five at) (i ∙ ap declines (same-refusal (sym (list-stops r t s at i) ∙ e)))
 
   by-bound : (k at : ℕ) → length s ≤ at + k → {f : Refused} → listAt r t s at ≡ declines f → P f
   by-bound zero at h e = subst P (same-refusal (sym (list-missing r t s at (omega arith)) ∙ e)) one

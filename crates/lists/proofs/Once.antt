@@ -9,7 +9,7 @@ use Rattle.lists.specs.Lists.{toldList}
 
 abbrev listedOf : Answer Tally → Listed
 listedOf (accepts l) = Done (l .count) (l .next)
-listedOf (declines f) = Refused (faultOf (f .number) (f .carried))
+listedOf (declines f) = Refused (faultOf f)
 
 listed-back : (a : Listed) → listedOf (toldList a) ≡ a
 listed-back (Done count next) = refl

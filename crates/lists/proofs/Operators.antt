@@ -7,8 +7,8 @@ use borrow.Author.Tests.{le-leb, lt-leb, lt-ltb, le-ltb}
 use native.Mathlib.Omega.{arith}
 use native.Mathlib.Decide.{decLt}
 use lib.ListN.{length, getD}
-use Rattle.ground.specs.Answers.{Answer, Refused, accepts, refuses, declines}
-use Rattle.ground.proofs.Answers.{never}
+use Rattle.ground.specs.Answers.{Answer, Refused, at-octet, refused, accepts, refusesAt, declines}
+use Rattle.ground.proofs.Answers.{never, same-refusal}
 use Rattle.ground.proofs.Cases.{by-cases, by-test}
 use Rattle.octets.specs.Widths.{widthOf}
 use Rattle.choices.specs.declared.Reading.{Reading}
@@ -17,11 +17,11 @@ use Rattle.operators.specs.Ops.{kindOf, Op}
 use Rattle.lists.specs.Lists.{opAt, valueAt, operatorAt}
 
 module _ (r : Reading) (t : ℕ) (s : List ℕ) (at : ℕ) where
-  pub operator-missing : length s ≤ at → operatorAt r t s at ≡ refuses 1 []
+  pub operator-missing : length s ≤ at → operatorAt r t s at ≡ refusesAt 1 [] (length s)
   unfolding operatorAt
   operator-missing h = simp (le-leb _ _ h)
 
-  pub operator-cut : at < length s → length s ≤ at + widthOf (getD s at 0) → operatorAt r t s at ≡ refuses 1 []
+  pub operator-cut : at < length s → length s ≤ at + widthOf (getD s at 0) → operatorAt r t s at ≡ refusesAt 1 [] (length s)
   unfolding operatorAt valueAt
   operator-cut h k = let l : length s - (at + 1) < widthOf (getD s at 0) = omega arith in simp (lt-leb _ _ h, lt-ltb _ _ l)
 
@@ -32,7 +32,7 @@ module _ (r : Reading) (t : ℕ) (s : List ℕ) (at : ℕ) where
     whole : widthOf (getD s at 0) ≤ length s - (at + 1)
     whole = omega arith
 
-    pub operator-refused : refusedIn r (kindOf t) (getD s at 0) ≡ true → operatorAt r t s at ≡ refuses 5 (getD s at 0 ∷ [])
+    pub operator-refused : refusedIn r (kindOf t) (getD s at 0) ≡ true → operatorAt r t s at ≡ refusesAt 5 (getD s at 0 ∷ []) at
     unfolding operatorAt valueAt
     operator-refused e = simp (lt-leb _ _ there, le-ltb _ _ whole, e)
 
@@ -56,17 +56,14 @@ taken r t s at e =
     (λ l. never (sym (operator-cut r t s at l (omega (arith, h))) ∙ e))
     (λ l. never (sym (operator-missing r t s at (omega (arith, l))) ∙ e)))
 
--- what an operator is refused by: 1, or 5 where the reading refuses the octet
-pub same-refusal : {A : Type 0} {f g : Refused} → _≡_ {A = Answer A} (declines f) (declines g) → f ≡ g
-same-refusal e = cc
-
-module _ (r : Reading) (t : ℕ) (s : List ℕ) (at : ℕ) (P : Refused → Type 0) (one : P (record { number = 1; carried = [] }))
-    (five : (x : ℕ) → refusedIn r (kindOf t) x ≡ true → P (record { number = 5; carried = x ∷ [] })) where
+-- what an operator is refused by: 1 at the octets' end, or 5 at the octet that the reading refuses
+module _ (r : Reading) (t : ℕ) (s : List ℕ) (at : ℕ) (P : Refused → Type 0) (one : P (refused 1 [] (at-octet (length s))))
+    (five : refusedIn r (kindOf t) (getD s at 0) ≡ true → P (refused 5 (getD s at 0 ∷ []) (at-octet at))) where
   pub operator-refuses : {f : Refused} → operatorAt r t s at ≡ declines f → P f
   operator-refuses e =
       by-cases (decLt (at + widthOf (getD s at 0)) (length s))
       (λ h. by-test (refusedIn r (kindOf t) (getD s at 0))
-      (λ g. subst P (same-refusal (sym (operator-refused r t s at h g) ∙ e)) (five (getD s at 0) g))
+      (λ g. subst P (same-refusal (sym (operator-refused r t s at h g) ∙ e)) (five g))
       (λ g. never (sym e ∙ operator-taken r t s at h g)))
       (λ h. by-cases (decLt at (length s))
       (λ l. subst P (same-refusal (sym (operator-cut r t s at l (omega (arith, h))) ∙ e)) one)

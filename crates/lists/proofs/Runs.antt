@@ -8,7 +8,7 @@ use native.Mathlib.Omega.{arith}
 use borrow.Author.Tests.{leb-true, ltb-true, ltb-false, eqb-true, lt-ltb, le-ltb}
 use lib.ListN.{length, getD}
 use lib.Dec.{leb, ltb, eqb}
-use Rattle.ground.specs.Answers.{Answer, accepts, refuses, declines}
+use Rattle.ground.specs.Answers.{Answer, accepts, refusesAt, declines}
 use Rattle.ground.proofs.Cases.{by-test, both}
 use Rattle.octets.specs.Widths.{widths, codeIn, widthOf}
 use Rattle.choices.specs.declared.Reading.{Reading}
@@ -39,16 +39,16 @@ module _ (r : Reading) (t : ℕ) (s : List ℕ) (at : ℕ) where
   rest-first = sym (plus-none (listAt r t s at))
 
   module _ (n : ℕ) where
-    pub rest-missing : length s ≤ at → rest r t s at n ≡ refuses 1 []
+    pub rest-missing : length s ≤ at → rest r t s at n ≡ refusesAt 1 [] (length s)
     unfolding rest
     rest-missing h = ap (plus n) (list-missing r t s at h)
 
-    pub rest-cut : at < length s → length s ≤ at + widthOf (getD s at 0) → rest r t s at n ≡ refuses 1 []
+    pub rest-cut : at < length s → length s ≤ at + widthOf (getD s at 0) → rest r t s at n ≡ refusesAt 1 [] (length s)
     unfolding rest
     rest-cut h k = ap (plus n) (list-cut r t s at h k)
 
     module _ (h : at + widthOf (getD s at 0) < length s) where
-      pub rest-refused : refusedIn r (kindOf t) (getD s at 0) ≡ true → rest r t s at n ≡ refuses 5 (getD s at 0 ∷ [])
+      pub rest-refused : refusedIn r (kindOf t) (getD s at 0) ≡ true → rest r t s at n ≡ refusesAt 5 (getD s at 0 ∷ []) at
       unfolding rest
       rest-refused e = ap (plus n) (list-refused r t s at h e)
 

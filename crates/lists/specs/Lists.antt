@@ -7,7 +7,7 @@ use mathlib.Core.Bool.{Bool, true, false}
 use mathlib.Core.List.{List, [], _∷_, map}
 use lib.ListN.{length, getD, take, drop}
 use lib.Dec.{ltb, leb}
-use Rattle.ground.specs.Answers.{Answer, accepts, refuses, declines}
+use Rattle.ground.specs.Answers.{Answer, accepts, refusesAt, declines}
 use Rattle.ground.specs.Picks.{pick}
 use Rattle.refusals.specs.Refusals.{refusal}
 use Rattle.octets.specs.Widths.{widthOf}
@@ -45,16 +45,16 @@ lacksOctet s at = leb (length s) at
 abbrev pub lacksValue : List ℕ → ℕ → Bool
 lacksValue s at = ltb (length s - (at + 1)) (widthOf (getD s at 0))
 
--- an operator whose octet is there: 1 is "any octet missing before its bound"; "An operator's value must be present before reserved bits
--- are looked at"
+-- an operator whose octet is there: 1 is "any octet missing before its bound", at that bound "also where part of a value is there"; "An
+-- operator's value must be present before reserved bits are looked at", which are refused at the operator octet
 unfoldable pub valueAt : Reading → ℕ → List ℕ → ℕ → Answer Op
 valueAt reading type s at =
-    pick (lacksValue s at) (refuses 1 [])
-    (pick (refusedIn reading (kindOf type) (getD s at 0)) (refuses 5 (getD s at 0 ∷ [])) (accepts (opAt s at)))
+    pick (lacksValue s at) (refusesAt 1 [] (length s))
+    (pick (refusedIn reading (kindOf type) (getD s at 0)) (refusesAt 5 (getD s at 0 ∷ []) at) (accepts (opAt s at)))
 
 -- first its octet, then its value
 unfoldable pub operatorAt : Reading → ℕ → List ℕ → ℕ → Answer Op
-operatorAt reading type s at = pick (lacksOctet s at) (refuses 1 []) (valueAt reading type s at)
+operatorAt reading type s at = pick (lacksOctet s at) (refusesAt 1 [] (length s)) (valueAt reading type s at)
 
 -- ---- a list of them
 
@@ -70,7 +70,7 @@ turn at (declines f) go = declines f
 
 -- the list from a place on; the number before the octets bounds its operators
 unfoldable pub listFrom : Reading → ℕ → ℕ → List ℕ → ℕ → Answer Tally
-listFrom reading type zero s at = refuses 1 []
+listFrom reading type zero s at = refusesAt 1 [] (length s)
 listFrom reading type (suc k) s at = turn at (operatorAt reading type s at) (listFrom reading type k s)
 
 -- the list at a place: how many operators it has and the place after it, or its first fault. Every operator has an octet, so there are no

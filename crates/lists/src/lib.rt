@@ -18,6 +18,7 @@ use octets::Cursor;
 use operators::Kind;
 use refusals::Fault;
 use refusals::FlowSpecError;
+use refusals::Place;
 
 // How many operators were passed, and the place after them.
 pub struct Tally {
@@ -104,6 +105,7 @@ fn measure_on(s: &[u8], at: usize, bound: u8) -> Listed
         if s.len() <= i {
             return Listed::Refused(Fault {
                 error: FlowSpecError::InsufficientData,
+                place: Place::Octet(s.len()),
             });
         }
         let octet = s[i];
@@ -112,11 +114,13 @@ fn measure_on(s: &[u8], at: usize, bound: u8) -> Listed
         if s.len() - from < w {
             return Listed::Refused(Fault {
                 error: FlowSpecError::InsufficientData,
+                place: Place::Octet(s.len()),
             });
         }
         if bound <= octet % 16 {
             return Listed::Refused(Fault {
                 error: FlowSpecError::InvalidOperator(octet),
+                place: Place::Octet(i),
             });
         }
         n += 1;
@@ -147,6 +151,7 @@ pub fn measure(c: Cursor, s: &[u8], reading: Reading, tag: u8) -> Listed
     if s.len() <= at {
         return Listed::Refused(Fault {
             error: FlowSpecError::InsufficientData,
+            place: Place::Octet(s.len()),
         });
     }
     if alone(s, at) {

@@ -17,6 +17,7 @@ ghost use Rattle.measuring.specs.Weights.{weightOf, prefixWeight, plainW
 use choices::Reading;
 use refusals::Fault;
 use refusals::FlowSpecError;
+use refusals::Place;
 use rules::NetworkPrefix;
 use stored::Piece;
 use wide::Wide;
@@ -375,6 +376,7 @@ pub fn measure_body(
         if w.octets == 0 {
             return Measured::Refused(Fault {
                 error: FlowSpecError::BadRecord,
+                place: Place::Nowhere,
             });
         }
         body += w.octets;
@@ -385,6 +387,7 @@ pub fn measure_body(
     if 4095 < body {
         return Measured::Refused(Fault {
             error: FlowSpecError::ValueTooLarge(body),
+            place: Place::Nowhere,
         });
     }
     Measured::Body(body)

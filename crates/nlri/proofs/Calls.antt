@@ -9,11 +9,12 @@ use borrow.Author.Tests.{lt-leb}
 use lib.Dec.{leb, ltb}
 use lib.ListN.{length, replicate}
 use lib.Seq.{sets}
-use Rattle.ground.specs.Answers.{Refused as Told, Answer, accepts, refuses, declines}
+use Rattle.ground.specs.Answers.{Answer, accepts, refuses, declines}
 use Rattle.ground.specs.Picks.{pick}
+use Rattle.ground.proofs.Answers.{same-refusal}
 use Rattle.ground.proofs.Cases.{by-test}
 use Rattle.refusals.specs.declared.Fault.{Fault}
-use Rattle.refusals.specs.Refusals.{numberOf, carriedOf, refusal}
+use Rattle.refusals.specs.Refusals.{refusal}
 use Rattle.choices.specs.declared.Reading.{Reading}
 use Rattle.choices.specs.declared.Reading.the-variants.{Plain}
 use Rattle.prefixes.proofs.Accepted.{Octets}
@@ -52,11 +53,6 @@ pub rule-back : (r : Reading) (s : List ℕ) (w v o : ℕ) → Octets s → rule
 rule-back r s w v o h = by-answer r s w v o h (readInto r s w v o) refl
 
 -- ---- writing
-same-refusal : {A : Type 0} (f : Fault) {n : ℕ} {ns : List ℕ} → refusal {A = A} f ≡ refuses n ns → refusal {A = ℕ} f ≡ refuses n ns
-same-refusal f {n} {ns} e =
-    let r : _≡_ {A = Told} (record { number = numberOf (f .error); carried = carriedOf (f .error) }) (record { number = n; carried = ns }) = cc in
-    ap (λ (x : Told). declines x) r
-
 module _ (ws : List ℕ) (r : FlowSpecNlri) (whole : length ws ≡ 64) (s : Stored) (told : toldStored s ≡ storeAnswer ws 0 r) where
   abbrev bad : Bool
   bad = ltb 13 (r .count) || holdsOne 1 (componentsOf r)
@@ -73,7 +69,7 @@ module _ (ws : List ℕ) (r : FlowSpecNlri) (whole : length ws ≡ 64) (s : Stor
   unfolding writtenNlri
   value-refused values octets out f is =
       by-test bad
-      (λ e. let g : refusal {A = ℕ} f ≡ refuses 10 [] = same-refusal f (sym (ap toldStored is) ∙ is-bad e) in rw (g, e) (refl, refl))
+      (λ e. let g : refusal {A = ℕ} f ≡ refuses 10 [] = ap declines (same-refusal (sym (ap toldStored is) ∙ is-bad e)) in rw (g, e) (refl, refl))
       (λ e. let z : _≡_ {A = ℕ} 0 1 = cc (is-good e, is) in absurd (omega arith))
 
   good : s ≡ Done → bad ≡ false

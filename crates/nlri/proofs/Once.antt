@@ -18,7 +18,7 @@ use Rattle.nlri.specs.Nlri.{toldAnswer, toldRead, toldStored}
 
 abbrev storedOne : Answer (Unit {0}) → Stored
 storedOne (accepts u) = Done
-storedOne (declines f) = NotStored (faultOf (f .number) (f .carried))
+storedOne (declines f) = NotStored (faultOf f)
 
 stored-one : (x : Stored) → storedOne (toldStored x) ≡ x
 stored-one Done = refl
@@ -29,7 +29,7 @@ one-stored x y e = sym (stored-one x) ∙ ap storedOne e ∙ stored-one y
 
 abbrev answerOne : Answer StoredRule → RuleAnswer
 answerOne (accepts s) = Accepted
-answerOne (declines f) = Refused (faultOf (f .number) (f .carried))
+answerOne (declines f) = Refused (faultOf f)
 
 answer-one : (a : RuleAnswer) (s : StoredRule) → answerOne (toldAnswer a s) ≡ a
 answer-one Accepted s = refl

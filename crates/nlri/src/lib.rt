@@ -24,6 +24,7 @@ use choices::Reading;
 use reading::ReadInto;
 use refusals::Fault;
 use refusals::FlowSpecError;
+use refusals::Place;
 use rules::FlowSpecComponent;
 use rules::FlowSpecNlri;
 use rules::NetworkPrefix;
@@ -153,7 +154,7 @@ fn slots_at(words: &[u64], base: usize, count: usize) -> [Slot; 13]
 }
 
 fn no_rule() -> RuleRead
-    ensures { λ r. ⌜ r ≡ record { answer = RuleAnswer.Refused (record { error = FlowSpecError.BadRecord }); rule = ruleOf (storedRule [] (head 0 0)) } ⌝ }
+    ensures { λ r. ⌜ r ≡ record { answer = RuleAnswer.Refused (record { error = FlowSpecError.BadRecord; place = Place.Nowhere }); rule = ruleOf (storedRule [] (head 0 0)) } ⌝ }
 {
     let slots = [Slot {
         component: FlowSpecComponent::Nothing,
@@ -161,6 +162,7 @@ fn no_rule() -> RuleRead
     RuleRead {
         answer: RuleAnswer::Refused(Fault {
             error: FlowSpecError::BadRecord,
+            place: Place::Nowhere,
         }),
         rule: FlowSpecNlri {
             slots: slots,
@@ -235,16 +237,19 @@ pub fn put_rule(words: &mut [u64], place: usize, rule: FlowSpecNlri) -> Stored
     if 13 < held {
         return Stored::Refused(Fault {
             error: FlowSpecError::BadRecord,
+            place: Place::Nowhere,
         });
     }
     if rule.holds(1) {
         return Stored::Refused(Fault {
             error: FlowSpecError::BadRecord,
+            place: Place::Nowhere,
         });
     }
     if words.len() / 64 <= place {
         return Stored::Refused(Fault {
             error: FlowSpecError::NoRoom(places_needed(place)),
+            place: Place::Nowhere,
         });
     }
     let base = 64 * place;

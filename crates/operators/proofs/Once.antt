@@ -15,7 +15,7 @@ use Rattle.operators.specs.Operators.{numericTold, bitmaskTold, octetTol
 
 abbrev numericOf : Answer NumericOperator → NumericRead
 numericOf (accepts x) = IsNumeric x
-numericOf (declines f) = NoNumeric (faultOf (f .number) (f .carried))
+numericOf (declines f) = NoNumeric (faultOf f)
 
 numeric-back : (a : NumericRead) → numericOf (numericTold a) ≡ a
 numeric-back (IsNumeric x) = refl
@@ -26,7 +26,7 @@ numeric-once a b h = sym (numeric-back a) ∙ ap numericOf h ∙ numeric-back b
 
 abbrev bitmaskOf : Answer BitmaskOperator → BitmaskRead
 bitmaskOf (accepts x) = IsBitmask x
-bitmaskOf (declines f) = NoBitmask (faultOf (f .number) (f .carried))
+bitmaskOf (declines f) = NoBitmask (faultOf f)
 
 bitmask-back : (a : BitmaskRead) → bitmaskOf (bitmaskTold a) ≡ a
 bitmask-back (IsBitmask x) = refl
@@ -37,7 +37,7 @@ bitmask-once a b h = sym (bitmask-back a) ∙ ap bitmaskOf h ∙ bitmask-back b
 
 abbrev octetOf : Answer ℕ → OctetMade
 octetOf (accepts x) = Octet x
-octetOf (declines f) = NoOctet (faultOf (f .number) (f .carried))
+octetOf (declines f) = NoOctet (faultOf f)
 
 octet-back : (a : OctetMade) → octetOf (octetTold a) ≡ a
 octet-back (Octet x) = refl

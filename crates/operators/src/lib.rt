@@ -7,6 +7,7 @@ ghost use Rattle.operators.specs.Operators.{numericFrom, bitmaskFrom, nu
 ghost use Rattle.operators.specs.Ops.{kindOf, clearedIn};
 use refusals::Fault;
 use refusals::FlowSpecError;
+use refusals::Place;
 
 // What the operators of a list are.
 pub enum Kind {
@@ -114,6 +115,7 @@ fn octet_of(end: bool, and: bool, width: u8, low: u8) -> OctetMade
     } else {
         OctetMade::Refused(Fault {
             error: FlowSpecError::BadRecord,
+            place: Place::Nowhere,
         })
     }
 }
@@ -141,6 +143,7 @@ impl NumericOperator {
         if octet / 8 % 2 == 1 {
             return NumericRead::Refused(Fault {
                 error: FlowSpecError::InvalidOperator(octet),
+                place: Place::Nowhere,
             });
         }
         NumericRead::Operator(NumericOperator {
@@ -199,6 +202,7 @@ impl BitmaskOperator {
         if octet / 4 % 4 != 0 {
             return BitmaskRead::Refused(Fault {
                 error: FlowSpecError::InvalidOperator(octet),
+                place: Place::Nowhere,
             });
         }
         BitmaskRead::Operator(BitmaskOperator {

@@ -10,7 +10,7 @@ use lib.Dec.{ltb, eqb}
 use lib.ListN.{length, getD, take, drop}
 use Rattle.ground.proofs.Answers.{never}
 use Rattle.ground.proofs.Cases.{both, by-test, lt-or-le}
-use Rattle.ground.specs.Answers.{Answer, accepts, refuses}
+use Rattle.ground.specs.Answers.{Answer, accepts, refusesAt}
 use Rattle.choices.specs.declared.Reading.{Reading}
 use Rattle.choices.specs.declared.Reading.the-variants.{Plain, Ipv4, Ipv6}
 use Rattle.octets.specs.Spell.{valueOf}
@@ -20,7 +20,7 @@ use Rattle.prefixes.specs.Prefixes.{octetsOf, offsetFits, fromIn, offset
 
 -- the octets of an extent are there, or one is missing
 module _ (s : List ℕ) (e : Extent) where
-  pub octets-missing : length s < e .next .at → octetsAt s e ≡ refuses 1 []
+  pub octets-missing : length s < e .next .at → octetsAt s e ≡ refusesAt 1 [] (length s)
   octets-missing h = simp (lt-ltb (length s) (e .next .at) h)
 
   pub octets-there : e .next .at ≤ length s → octetsAt s e ≡ accepts e
@@ -34,15 +34,15 @@ from-past Ipv6 at = omega arith
 
 -- an octet before the address is missing, the length is bad, an octet of the address is missing, or nothing is
 module _ (r : Reading) (s : List ℕ) (at : ℕ) where
-  pub extent-missing : length s < fromIn r at → extentAt r s at ≡ refuses 1 []
+  pub extent-missing : length s < fromIn r at → extentAt r s at ≡ refusesAt 1 [] (length s)
   unfolding extentAt
   extent-missing h = simp (lt-ltb (length s) (fromIn r at) h)
 
-  pub extent-none : length s ≤ at → extentAt r s at ≡ refuses 1 []
+  pub extent-none : length s ≤ at → extentAt r s at ≡ refusesAt 1 [] (length s)
   extent-none h = extent-missing (omega (arith, from-past r at))
 
   module _ (h : fromIn r at ≤ length s) where
-    pub extent-bad : rangeIn r (getD s at 0) (offsetIn r s at) ≡ false → extentAt r s at ≡ refuses 4 []
+    pub extent-bad : rangeIn r (getD s at 0) (offsetIn r s at) ≡ false → extentAt r s at ≡ refusesAt 4 [] at
     unfolding extentAt
     extent-bad e = simp (le-ltb (length s) (fromIn r at) h, e)
 
@@ -51,7 +51,7 @@ module _ (r : Reading) (s : List ℕ) (at : ℕ) where
       unfolding extentAt
       extent-octets = simp (le-ltb (length s) (fromIn r at) h, e)
 
-      pub extent-short : length s < namedAt r s at .next .at → extentAt r s at ≡ refuses 1 []
+      pub extent-short : length s < namedAt r s at .next .at → extentAt r s at ≡ refusesAt 1 [] (length s)
       extent-short k = extent-octets ∙ octets-missing s (namedAt r s at) k
 
       pub extent-whole : namedAt r s at .next .at ≤ length s → extentAt r s at ≡ accepts (namedAt r s at)
@@ -68,7 +68,7 @@ same e = cc
 
 module _ (r : Reading) (s : List ℕ) (at : ℕ) where
   -- so what holds of the two refusals, and of what the octets name where it is taken, holds of every answer
-  pub extent-ways : (P : Answer Extent → Type 0) → P (refuses 1 []) → P (refuses 4 []) → (Taken r s at → P (accepts (namedAt r s at))) → P (extentAt r s at)
+  pub extent-ways : (P : Answer Extent → Type 0) → P (refusesAt 1 [] (length s)) → P (refusesAt 4 [] at) → (Taken r s at → P (accepts (namedAt r s at))) → P (extentAt r s at)
   extent-ways P one four whole =
       ⊎-elim
       (λ h. subst P (sym (extent-missing r s at h)) one)
@@ -105,7 +105,7 @@ module _ (r : Reading) (s : List ℕ) (at : ℕ) where
   unfolding prefixAt
   prefix-by e = ap (prefixOn r s) e
 
-  pub prefix-ways : (P : Answer PrefixAt → Type 0) → P (refuses 1 []) → P (refuses 4 []) → (Taken r s at → P (accepts (prefixFrom r s (namedAt r s at))))
+  pub prefix-ways : (P : Answer PrefixAt → Type 0) → P (refusesAt 1 [] (length s)) → P (refusesAt 4 [] at) → (Taken r s at → P (accepts (prefixFrom r s (namedAt r s at))))
       → P (prefixAt r s at)
   unfolding prefixAt
   prefix-ways P one four whole = extent-ways (λ (a : Answer Extent). P (prefixOn r s a)) one four whole

@@ -12,7 +12,7 @@ use Rattle.prefixes.specs.Prefixes.{toldExtent, toldPrefix}
 
 abbrev extentOf : Answer Extent → ExtentRead
 extentOf (accepts e) = Is e
-extentOf (declines f) = Refused (faultOf (f .number) (f .carried))
+extentOf (declines f) = Refused (faultOf f)
 
 extent-back : (a : ExtentRead) → extentOf (toldExtent a) ≡ a
 extent-back (Is e) = refl
@@ -23,7 +23,7 @@ extent-once a b h = sym (extent-back a) ∙ ap extentOf h ∙ extent-back b
 
 abbrev prefixOf : Answer PrefixAt → PrefixRead
 prefixOf (accepts p) = Whole p
-prefixOf (declines f) = NotRead (faultOf (f .number) (f .carried))
+prefixOf (declines f) = NotRead (faultOf f)
 
 prefix-back : (a : PrefixRead) → prefixOf (toldPrefix a) ≡ a
 prefix-back (Whole p) = refl

@@ -15,7 +15,7 @@ use mathlib.Core.List.{List, []}
 use mathlib.Core.Bool.{Bool, true, false, _&&_, _||_}
 use lib.ListN.{length, getD, take, drop}
 use lib.Dec.{ltb, leb, eqb}
-use Rattle.ground.specs.Answers.{Answer, accepts, refuses, declines}
+use Rattle.ground.specs.Answers.{Answer, accepts, refusesAt, declines}
 use Rattle.ground.specs.Picks.{pick}
 use Rattle.refusals.specs.Refusals.{refusal}
 use Rattle.choices.specs.declared.Reading.{Reading}
@@ -64,7 +64,7 @@ extentOf len offset from =
 
 -- they are there, or one is missing
 abbrev pub octetsAt : List ℕ → Extent → Answer Extent
-octetsAt s e = pick (ltb (length s) (e .next .at)) (refuses 1 []) (accepts e)
+octetsAt s e = pick (ltb (length s) (e .next .at)) (refusesAt 1 [] (length s)) (accepts e)
 
 -- what the octets at a place say, if they are there
 abbrev pub namedAt : Reading → List ℕ → ℕ → Extent
@@ -72,11 +72,11 @@ namedAt reading s at = extentOf (getD s at 0) (offsetIn reading s at) (fromIn re
 
 -- "Prefix: length octet, refused above 128, then ceil(length/8) octets, then done." "IPv4 prefix: length above 32 is InvalidPrefix. Then the
 -- octets." "IPv6 prefix: length octet, offset octet, then either both are 0 or offset < length < 129, else InvalidPrefix; then
--- ceil((length - offset)/8) octets"
+-- ceil((length - offset)/8) octets". "A bad IPv6 prefix pair has the place of its length octet", and so has any bad length
 unfoldable pub extentAt : Reading → List ℕ → ℕ → Answer Extent
 extentAt reading s at =
-    pick (ltb (length s) (fromIn reading at)) (refuses 1 [])
-    (pick (rangeIn reading (getD s at 0) (offsetIn reading s at)) (octetsAt s (namedAt reading s at)) (refuses 4 []))
+    pick (ltb (length s) (fromIn reading at)) (refusesAt 1 [] (length s))
+    (pick (rangeIn reading (getD s at 0) (offsetIn reading s at)) (octetsAt s (namedAt reading s at)) (refusesAt 4 [] at))
 
 abbrev pub toldExtent : ExtentRead → Answer Extent
 toldExtent (Is e) = accepts e

@@ -17,6 +17,7 @@ use choices::Reading;
 use octets::Cursor;
 use refusals::Fault;
 use refusals::FlowSpecError;
+use refusals::Place;
 use rules::NetworkPrefix;
 use wide::Wide;
 
@@ -87,6 +88,7 @@ fn octets_at(s: &[u8], len: u8, off: u8, from: usize) -> ExtentRead
     if s.len() - from < octets_of(len - off) {
         return ExtentRead::Refused(Fault {
             error: FlowSpecError::InsufficientData,
+            place: Place::Octet(s.len()),
         });
     }
     ExtentRead::Is(extent_of(len, off, from))
@@ -100,6 +102,7 @@ pub fn extent_at(reading: Reading, s: &[u8], c: Cursor) -> ExtentRead
     if s.len() <= at {
         return ExtentRead::Refused(Fault {
             error: FlowSpecError::InsufficientData,
+            place: Place::Octet(s.len()),
         });
     }
     let len = s[at];
@@ -109,6 +112,7 @@ pub fn extent_at(reading: Reading, s: &[u8], c: Cursor) -> ExtentRead
             if 128 < len {
                 return ExtentRead::Refused(Fault {
                     error: FlowSpecError::InvalidPrefix,
+                    place: Place::Octet(at),
                 });
             }
             octets_at(s, len, 0, from)
@@ -117,6 +121,7 @@ pub fn extent_at(reading: Reading, s: &[u8], c: Cursor) -> ExtentRead
             if 32 < len {
                 return ExtentRead::Refused(Fault {
                     error: FlowSpecError::InvalidPrefix,
+                    place: Place::Octet(at),
                 });
             }
             octets_at(s, len, 0, from)
@@ -125,12 +130,14 @@ pub fn extent_at(reading: Reading, s: &[u8], c: Cursor) -> ExtentRead
             if s.len() <= from {
                 return ExtentRead::Refused(Fault {
                     error: FlowSpecError::InsufficientData,
+                    place: Place::Octet(s.len()),
                 });
             }
             let off = s[from];
             if !offset_fits(len, off) {
                 return ExtentRead::Refused(Fault {
                     error: FlowSpecError::InvalidPrefix,
+                    place: Place::Octet(at),
                 });
             }
             octets_at(s, len, off, from + 1)

@@ -7,7 +7,8 @@ use mathlib.Core.List.{List}
 use native.Mathlib.Omega.{arith}
 use lib.Dec.{ltb, leb, eqb}
 use lib.ListN.{length, getD, length-take, length-drop}
-use Rattle.ground.specs.Answers.{Refused, Answer, accepts, refuses, declines}
+use Rattle.ground.specs.Answers.{Refused, Answer, answerBy, accepts, refuses, declines}
+use Rattle.ground.proofs.Answers.{same-refusal}
 use Rattle.ground.proofs.Cases.{by-test}
 use Rattle.octets.specs.declared.Length.{Length}
 use Rattle.octets.specs.Lengths.{lengthAt}
@@ -53,11 +54,17 @@ met-ruled : (r : Reading) (family used : ℕ) (a : Answer Body) → Met (walkMee
 met-ruled r family used (accepts b) h = tt
 met-ruled r family used (declines f) h = walk-read r (f .number) h
 
+met-moved : {A : Type 0} (m : ℕ → Bool) (start : ℕ) (a : Answer A) → Met m a → Met m (answerBy start a)
+met-moved m start (accepts x) h = tt
+met-moved m start (declines f) h = h
+
 met-stated : (r : Reading) (s : List ℕ) (start size : ℕ) → Met (readMeets r) (statedAt r s start size)
 unfolding statedAt
 met-stated r s start size =
     by-test (ltb (length s) (start + size)) (λ t. rw t (one r))
-    (λ f. rw f (met-ruled r (familyOf r) (start + size) (walkAt r (part s start (boundOf r (length s) (start + size))) size) (met-walk r (part s start (boundOf r (length s) (start + size))) size)))
+    (λ f.
+    let p = part s start (boundOf r (length s) (start + size)) in
+    rw f (met-ruled r (familyOf r) (start + size) (answerBy start (walkAt r p size)) (met-moved (walkMeets r) start (walkAt r p size) (met-walk r p size))))
 
 -- a length is refused by 1
 met-length : (r : Reading) (s : List ℕ) (at : ℕ) → Met (readMeets r) (lengthAt s at)
@@ -89,28 +96,26 @@ no-six Plain e = let z : _≡_ {A = ℕ} 0 1 = cc in omega arith
 no-six Ipv4 e = let z : _≡_ {A = ℕ} 0 1 = cc in omega arith
 no-six Ipv6 e = let z : _≡_ {A = ℕ} 0 1 = cc in omega arith
 
-pub never-six : (r : Reading) (s : List ℕ) (w v o : ℕ) (c : List ℕ) → readInto r s w v o ≡ refuses 6 c → ⊥
-never-six r s w v o c e = no-six r (subst (Met (readMeets r)) e (met-read r s w v o))
+pub never-six : (r : Reading) (s : List ℕ) (w v o : ℕ) (f : Refused) → readInto r s w v o ≡ declines f → f .number ≡ 6 → ⊥
+never-six r s w v o f e n = no-six r (rw n at (subst (Met (readMeets r)) e (met-read r s w v o)))
 
 -- "InvalidOperator (plain only)"
-pub plain-only : (r : Reading) → (r ≡ Plain → ⊥) → (s : List ℕ) (w v o : ℕ) (c : List ℕ) → readInto r s w v o ≡ refuses 5 c → ⊥
-plain-only Plain h s w v o c e = h refl
-plain-only Ipv4 h s w v o c e = let y : false ≡ true = subst (Met (readMeets Ipv4)) e (met-read Ipv4 s w v o) in let z : _≡_ {A = ℕ} 0 1 = cc in omega arith
-plain-only Ipv6 h s w v o c e = let y : false ≡ true = subst (Met (readMeets Ipv6)) e (met-read Ipv6 s w v o) in let z : _≡_ {A = ℕ} 0 1 = cc in omega arith
+no-five : (r : Reading) → (r ≡ Plain → ⊥) → readMeets r 5 ≡ true → ⊥
+no-five Plain h e = h refl
+no-five Ipv4 h e = let z : _≡_ {A = ℕ} 0 1 = cc in omega arith
+no-five Ipv6 h e = let z : _≡_ {A = ℕ} 0 1 = cc in omega arith
 
-eleven : {ns c : List ℕ} → _≡_ {A = Answer ReadRule} (refuses 11 ns) (refuses 6 c) → ⊥
-eleven {ns} {c} e =
-    let r : _≡_ {A = Refused} (record { number = 11; carried = ns }) (record { number = 6; carried = c }) = cc in
-    let z : _≡_ {A = ℕ} 11 6 = ap (λ (x : Refused). x .number) r in omega arith
+pub plain-only : (r : Reading) → (r ≡ Plain → ⊥) → (s : List ℕ) (w v o : ℕ) (f : Refused) → readInto r s w v o ≡ declines f → f .number ≡ 5 → ⊥
+plain-only r h s w v o f e n = no-five r h (rw n at (subst (Met (readMeets r)) e (met-read r s w v o)))
 
-pub standard-never-six : (family : ℕ) (s : List ℕ) (w v o : ℕ) (c : List ℕ) → standardInto family s w v o ≡ refuses 6 c → ⊥
+pub standard-never-six : (family : ℕ) (s : List ℕ) (w v o : ℕ) (f : Refused) → standardInto family s w v o ≡ declines f → f .number ≡ 6 → ⊥
 unfolding standardInto standardOf
-standard-never-six family s w v o c e =
+standard-never-six family s w v o f e n =
     by-test (eqb family 4)
-    (λ t. never-six Ipv4 s w v o c (rw t at e))
-    (λ f. by-test (eqb family 6)
-    (λ t. never-six Ipv6 s w v o c (rw (f, t) at e))
-    (λ g. eleven (rw (f, g) at e)))
+    (λ t. never-six Ipv4 s w v o f (rw t at e) n)
+    (λ g. by-test (eqb family 6)
+    (λ t. never-six Ipv6 s w v o f (rw (g, t) at e) n)
+    (λ h. let z : 11 ≡ f .number = ap (λ (x : Refused). x .number) (same-refusal (rw (g, h) at e)) in omega arith))
 
 -- the body of an accepted standard reading: the stated octets, of which the components leave none over
 pub record Exact (r : Reading) (s : List ℕ) (rule : ReadRule) : Type 0 where

@@ -6,3 +6,4 @@ pub mod Bodies
 pub mod Walked
 pub mod Once
 pub mod Laws
+pub mod Places

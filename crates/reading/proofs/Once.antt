@@ -8,7 +8,7 @@ use Rattle.reading.specs.Readings.{Taken, toldInto}
 
 abbrev intoOf : Answer Taken → ReadInto
 intoOf (accepts x) = Read (x .used) (x .operators)
-intoOf (declines f) = Refused (faultOf (f .number) (f .carried))
+intoOf (declines f) = Refused (faultOf f)
 
 into-back : (a : ReadInto) → intoOf (toldInto a) ≡ a
 into-back (Read u n) = refl

@@ -10,7 +10,7 @@ use lib.Dec.{ltb, leb, eqb}
 use lib.ListN.{length}
 use Rattle.ground.proofs.Answers.{never}
 use Rattle.ground.proofs.Cases.{by-test}
-use Rattle.ground.specs.Answers.{Answer, accepts, refuses, declines}
+use Rattle.ground.specs.Answers.{Answer, Refused, accepts, refuses, declines}
 use Rattle.ground.specs.Picks.{pick}
 use Rattle.choices.specs.declared.Reading.{Reading}
 use Rattle.lists.specs.Runs.{Places}
@@ -78,7 +78,7 @@ roomed-by r words values octets =
     (λ g. rw (f, g)))
 
 -- what is behind what was taken
-untaken-refused : (a : Answer ReadRule) {n : ℕ} {c : List ℕ} → refuses n c ≡ takenOf a → a ≡ refuses n c
+untaken-refused : (a : Answer ReadRule) {f : Refused} → declines f ≡ takenOf a → a ≡ declines f
 untaken-refused (accepts x) e = never e
 untaken-refused (declines f) e = cc
 
@@ -103,7 +103,7 @@ module _ (r : Reading) (s : List ℕ) (words values octets : ℕ) where
   by-read e = ap (λ (x : Answer ReadRule). roomed x words values octets) e
 
   -- an input that is refused is refused with any room
-  pub into-refused : {n : ℕ} {c : List ℕ} → refuses n c ≡ takenOf (readAt r s) → readInto r s words values octets ≡ refuses n c
+  pub into-refused : {f : Refused} → declines f ≡ takenOf (readAt r s) → readInto r s words values octets ≡ declines f
   into-refused e = by-read (untaken-refused (readAt r s) e)
 
   -- one that is accepted goes by what is lacking

@@ -9,7 +9,7 @@ use lib.Dec.{ltb, leb}
 use lib.ListN.{length, getD, take, drop}
 use lib.Seq.{getD-drop}
 use Rattle.ground.proofs.Answers.{never}
-use Rattle.ground.specs.Answers.{Answer, accepts, declines}
+use Rattle.ground.specs.Answers.{Answer, answerBy, accepts, declines}
 use Rattle.ground.proofs.Cases.{by-test}
 use Rattle.octets.specs.declared.Length.{Length}
 use Rattle.octets.specs.Lengths.{lengthAt}
@@ -36,7 +36,7 @@ pub record Walked (r : Reading) (s : List ℕ) (rule : ReadRule) : Type 0 where
   pub is : readRule given (familyOf r) (stated .next .at + stated .size) ≡ rule
 
 by-walk : (r : Reading) (s : List ℕ) (rule : ReadRule) (l : Length) → lengthAt s 0 ≡ accepts l → l .next .at + l .size ≤ length s → (a : Answer Body)
-    → walkAt r (part s (l .next .at) (boundOf r (length s) (l .next .at + l .size))) (l .size) ≡ a → ruled (familyOf r) (l .next .at + l .size) a ≡ accepts rule
+    → walkAt r (part s (l .next .at) (boundOf r (length s) (l .next .at + l .size))) (l .size) ≡ a → ruled (familyOf r) (l .next .at + l .size) (answerBy (l .next .at) a) ≡ accepts rule
     → Walked r s rule
 by-walk r s rule l i h (accepts b) q e = record { stated = l; first = i; within = h; given = b; walked = q; is = same e }
 by-walk r s rule l i h (declines f) q e = never e

@@ -1,13 +1,18 @@
 -- The ways that a reading into lent lists goes, over plain lists: one law for each return of `test_body`, `test`, `read_into` and `read`.
-use Prim.Native.Nat.{ℕ, _+_, _-_, _≤_, _<_}
+use Prim.Native.Nat.{ℕ, _+_, _-_, _^_, _≤_, _<_}
 use mathlib.Core.Path.{_≡_, refl, sym, _∙_, ap, ap₂}
 use mathlib.Core.Bool.{true, false}
 use mathlib.Core.List.{List, [], _∷_, map}
 use native.Mathlib.Omega.{arith}
 use borrow.Author.Tests.{lt-ltb, le-ltb}
-use lib.ListN.{length, getD}
+use lib.ListN.{length, getD, length-take, length-drop}
 use lib.Seq.{sets}
-use Rattle.ground.specs.Answers.{Answer, accepts, refuses, declines}
+use Rattle.ground.specs.Answers.{Answer, Refused, at-octet, answerBy, accepts, refuses, refusesAt, declines}
+use Rattle.ground.proofs.Answers.{never}
+use Rattle.refusals.specs.declared.Place.{Place}
+use Rattle.refusals.specs.declared.Place.the-variants.{Nowhere, Octet}
+use Rattle.refusals.specs.declared.Fault.{Fault}
+use Rattle.refusals.specs.Refusals.{placeOf, told, Movable}
 use Rattle.octets.specs.declared.Length.{Length}
 use Rattle.octets.specs.Lengths.{lengthAt, lengthWidth, lengthValue}
 use Rattle.octets.proofs.Lengths.{field-whole}
@@ -17,6 +22,7 @@ use Rattle.choices.specs.Choices.{boundOf, familyOf, standardOf}
 use Rattle.operators.specs.Ops.{octetOf, numberOf}
 use Rattle.stored.specs.Stored.{head, ruleWords}
 use Rattle.walk.specs.Walks.{Body, walkAt, counted}
+use Rattle.walk.proofs.Places.{walk-breaks}
 use Rattle.reading.specs.Readings.{ReadRule, ruled, part, statedAt, afterLength, tooLong, readAt, readInto, byReading, standardInto, Taken, taken, takenOf, wordsOf, operatorsOf}
 use Rattle.reading.specs.Parts.{readOf, lackingOf}
 use Rattle.reading.proofs.Rooms.{into-refused, into-lacking, into-roomed, tested, counted-in}
@@ -26,7 +32,7 @@ abbrev pub Post : Answer ReadRule → (ws vs os : List ℕ) → Answer Taken →
 Post a ws vs os told ws′ vs′ os′ =
     (told ≡ takenOf a) × ((ws′ ≡ sets ws 0 (wordsOf a)) × ((vs′ ≡ sets vs 0 (map numberOf (operatorsOf a))) × (os′ ≡ sets os 0 (map octetOf (operatorsOf a)))))
 
-pub refused : (a : Answer ReadRule) {n : ℕ} {c : List ℕ} → a ≡ refuses n c → (ws vs os : List ℕ) → Post a ws vs os (refuses n c) ws vs os
+pub refused : (a : Answer ReadRule) {f : Refused} → a ≡ declines f → (ws vs os : List ℕ) → Post a ws vs os (declines f) ws vs os
 refused a e ws vs os = (rw e, (rw e, (rw e, rw e)))
 
 filled : (a : Answer ReadRule) {r : ReadRule} → a ≡ accepts r → (ws vs os : List ℕ) {ws′ vs′ os′ : List ℕ} {n : ℕ} → length (r .operators) ≡ n
@@ -45,27 +51,45 @@ abbrev pub takenBy : ℕ → Answer ℕ → Answer Taken
 takenBy used (accepts n) = accepts (taken used n)
 takenBy used (declines f) = declines f
 
-taken-ruled : (family used : ℕ) (a : Answer Body) → takenBy used (counted a) ≡ takenOf (ruled family used a)
-taken-ruled family used (accepts b) = refl
-taken-ruled family used (declines f) = refl
+taken-ruled : (family used start : ℕ) (a : Answer Body) → takenBy used (answerBy start (counted a)) ≡ takenOf (ruled family used (answerBy start a))
+taken-ruled family used start (accepts b) = refl
+taken-ruled family used start (declines f) = refl
 
 -- the first walk over a body
 module _ (r : Reading) (s : List ℕ) (start size : ℕ) (in-input : start ≤ length s) where
-  pub stated-past : length s - start < size → refuses 1 [] ≡ takenOf (statedAt r s start size)
+  pub stated-past : length s - start < size → refusesAt 1 [] (length s) ≡ takenOf (statedAt r s start size)
   unfolding statedAt
   stated-past h =
       let l : length s < start + size = omega arith in
       rw (lt-ltb (length s) (start + size) l)
 
   module _ (h : size ≤ length s - start) {end : ℕ} (e : end ≡ boundOf r (length s) (start + size)) where
-    pub stated-walk : statedAt r s start size ≡ ruled (familyOf r) (start + size) (walkAt r (part s start end) size)
+    pub stated-walk : statedAt r s start size ≡ ruled (familyOf r) (start + size) (answerBy start (walkAt r (part s start end) size))
     unfolding statedAt
     stated-walk =
         let l : start + size ≤ length s = omega arith in
         rw (le-ltb (length s) (start + size) l, sym e)
 
-    pub walk-taken : {a : Answer ℕ} → a ≡ counted (walkAt r (part s start end) size) → takenBy (start + size) a ≡ takenOf (statedAt r s start size)
-    walk-taken q = ap (takenBy (start + size)) q ∙ taken-ruled (familyOf r) (start + size) (walkAt r (part s start end) size) ∙ ap takenOf (sym stated-walk)
+    pub walk-taken : {a : Answer ℕ} → a ≡ counted (walkAt r (part s start end) size) → takenBy (start + size) (answerBy start a) ≡ takenOf (statedAt r s start size)
+    walk-taken q =
+        ap (λ (a : Answer ℕ). takenBy (start + size) (answerBy start a)) q
+        ∙ taken-ruled (familyOf r) (start + size) start (walkAt r (part s start end) size) ∙ ap takenOf (sym stated-walk)
+
+-- a refusal of the walk has its place within the part, so that it can be moved by the part's start
+uncounted : (a : Answer Body) {f : Refused} → declines f ≡ counted a → a ≡ declines f
+uncounted (accepts b) e = never e
+uncounted (declines g) e = cc
+
+movable-at : (start : ℕ) (p : Place) {n : ℕ} → placeOf p ≡ at-octet n → start + n < 2 ^ 64 → Movable start p
+movable-at start Nowhere e h = tt
+movable-at start (Octet at) {n} e h = let z : at ≡ n = cc in omega arith
+
+pub walk-movable : (r : Reading) (s : List ℕ) (start size end : ℕ) → start ≤ end → end ≤ length s → length s < 2 ^ 64
+    → (f : Fault) → declines (told f) ≡ counted (walkAt r (part s start end) size) → Movable start (f .place)
+walk-movable r s start size end h k l f e =
+    let b = walk-breaks r (part s start end) size (uncounted (walkAt r (part s start end) size) e) in
+    let n : length (part s start end) ≡ end - start = simp (length-take, length-drop) (omega arith) in
+    movable-at start (f .place) (b .is) (omega (arith, b .within))
 
 pub after-of : {x y : Length} → accepts x ≡ accepts y → x .next .at ≡ y .next .at
 after-of {x} {y} e = let z : x ≡ y = cc in ap (λ (l : Length). l .next .at) z
@@ -81,7 +105,7 @@ module _ (r : Reading) (s : List ℕ) where
     unfolding readAt
     read-is e = rw (h, sym e)
 
-    pub no-length : {n : ℕ} {c : List ℕ} → refuses n c ≡ lengthAt s 0 → refuses n c ≡ takenOf (readAt r s)
+    pub no-length : {f : Refused} → declines f ≡ lengthAt s 0 → declines f ≡ takenOf (readAt r s)
     no-length e = sym (ap takenOf (read-is e))
 
     pub by-field : {start size : ℕ} → start ≡ lengthWidth (getD s 0 0) → size ≡ lengthValue s 0 → start ≤ length s
@@ -95,7 +119,7 @@ module _ (r : Reading) (s ws vs os : List ℕ) where
   abbrev answer : Answer ReadRule
   answer = readInto r s (length ws) (length vs) (length os)
 
-  pub test-refused : {n : ℕ} {c : List ℕ} → refuses n c ≡ takenOf (readAt r s) → Post answer ws vs os (refuses n c) ws vs os
+  pub test-refused : {f : Refused} → declines f ≡ takenOf (readAt r s) → Post answer ws vs os (declines f) ws vs os
   test-refused e = refused answer (into-refused r s (length ws) (length vs) (length os) e) ws vs os
 
   module _ {u n : ℕ} (q : accepts (taken u n) ≡ takenOf (readAt r s)) {k : ℕ} (e : k ≡ lackingOf n (length ws) (length vs) (length os)) where
@@ -112,7 +136,7 @@ module _ (family : ℕ) (s ws vs os : List ℕ) where
   unfolding standardInto
   standard-is e = rw (sym e)
 
-  pub bad-family : {n : ℕ} {c : List ℕ} → refuses n c ≡ standardOf family → Post (standardInto family s (length ws) (length vs) (length os)) ws vs os (refuses n c) ws vs os
+  pub bad-family : {f : Refused} → declines f ≡ standardOf family → Post (standardInto family s (length ws) (length vs) (length os)) ws vs os (declines f) ws vs os
   bad-family e = refused (standardInto family s (length ws) (length vs) (length os)) (standard-is e) ws vs os
 
   pub of-family : {r : Reading} → accepts r ≡ standardOf family → {told : Answer Taken} {ws′ vs′ os′ : List ℕ}

@@ -6,7 +6,7 @@ use mathlib.Core.Bool.{Bool, false}
 use mathlib.Core.List.{List, [], _∷_}
 use lib.ListN.{length, take, drop}
 use lib.Dec.{ltb, leb}
-use Rattle.ground.specs.Answers.{Answer, accepts, refuses, declines}
+use Rattle.ground.specs.Answers.{Answer, accepts, refuses, refusesAt, answerBy, declines}
 use Rattle.ground.specs.Picks.{pick}
 use Rattle.refusals.specs.Refusals.{refusal}
 use Rattle.octets.specs.declared.Length.{Length}
@@ -40,11 +40,12 @@ abbrev pub part : List ℕ → ℕ → ℕ → List ℕ
 part s from to = take (to - from) (drop from s)
 
 -- after the length: "a stated end past the input is 1, before the walk"; "The component walk sees only the octets between the length and the
--- stated end", in the plain reading those up to "the end of the input". "Used" is "1 or 2 plus the length"
+-- stated end", in the plain reading those up to "the end of the input": a place that it names is counted from there. "Used" is "1 or 2 plus
+-- the length"
 unfoldable pub statedAt : Reading → List ℕ → ℕ → ℕ → Answer ReadRule
 statedAt reading s start size =
-    pick (ltb (length s) (start + size)) (refuses 1 [])
-    (ruled (familyOf reading) (start + size) (walkAt reading (part s start (boundOf reading (length s) (start + size))) size))
+    pick (ltb (length s) (start + size)) (refusesAt 1 [] (length s))
+    (ruled (familyOf reading) (start + size) (answerBy start (walkAt reading (part s start (boundOf reading (length s) (start + size))) size)))
 
 abbrev pub afterLength : Reading → List ℕ → Answer Length → Answer ReadRule
 afterLength reading s (accepts l) = statedAt reading s (l .next .at) (l .size)

@@ -22,6 +22,7 @@ use lists::Tally;
 use octets::Cursor;
 use refusals::Fault;
 use refusals::FlowSpecError;
+use refusals::Place;
 use stored::Piece;
 use walk::Walked;
 
@@ -143,6 +144,7 @@ fn test_body(reading: Reading, input: &[u8], start: usize, size: usize) -> ReadI
     if input.len() - start < size {
         return ReadInto::Refused(Fault {
             error: FlowSpecError::InsufficientData,
+            place: Place::Octet(input.len()),
         });
     }
     let used = start + size;
@@ -152,7 +154,7 @@ fn test_body(reading: Reading, input: &[u8], start: usize, size: usize) -> ReadI
             used: used,
             operators: operators,
         },
-        Walked::Refused(fault) => ReadInto::Refused(fault),
+        Walked::Refused(fault) => ReadInto::Refused(fault.moved(start)),
     }
 }
 
@@ -165,17 +167,20 @@ pub fn test(reading: Reading, input: &[u8]) -> ReadInto
     if too_long(reading, n) {
         return ReadInto::Refused(Fault {
             error: FlowSpecError::InputTooLong(n),
+            place: Place::Nowhere,
         });
     }
     if n == 0 {
         return ReadInto::Refused(Fault {
             error: FlowSpecError::InsufficientData,
+            place: Place::Octet(n),
         });
     }
     let start = octets::length_width(input[0]);
     if n < start {
         return ReadInto::Refused(Fault {
             error: FlowSpecError::InsufficientData,
+            place: Place::Octet(n),
         });
     }
     test_body(reading, input, start, octets::length_value(input, 0, start))
@@ -249,6 +254,7 @@ pub fn read_into(
             if lack != 0 {
                 return ReadInto::Refused(Fault {
                     error: FlowSpecError::NoRoom(lack),
+                    place: Place::Nowhere,
                 });
             }
             store(reading, input, used, words, values, octets, 0);

@@ -1,17 +1,20 @@
--- A refusal's number and what it carries determine it, so an answer told in these terms leaves no second one: whoever tells an answer can
+-- A refusal's number, what it carries and its place determine it, so an answer told in these terms leaves no second one: whoever tells an answer can
 -- be shown to lose nothing by reading it back.
 use Prim.Native.Nat.{ℕ}
-use mathlib.Core.Path.{_≡_, refl, ap, _∙_}
+use mathlib.Core.Path.{_≡_, refl, sym, ap, ap₂, _∙_}
 use mathlib.Core.List.{List}
 use lib.ListN.{getD}
 use lib.Dec.{eqb}
+use Rattle.ground.specs.Answers.{Place, nowhere, at-octet, Refused}
 use Rattle.ground.specs.Picks.{pick}
 use Rattle.refusals.specs.declared.FlowSpecError.{FlowSpecError}
 use Rattle.refusals.specs.declared.FlowSpecError.the-variants.{InsufficientData, InvalidComponentOrder, InvalidComponentType, InvalidPrefix, InvalidOperator, InvalidValueLength, ValueTooLarge, InputTooLong, NoRoom, BadRecord, BadFamily, TooManyRules, BadPacket, MixedFamily, Outer}
 use Rattle.refusals.specs.declared.OuterError.{OuterError}
 use Rattle.refusals.specs.declared.OuterError.the-variants.{BadAttribute, ShortPacket, BadHeader, TooManyHeaders, ShortDistinguisher, MixedDistinguisher, TableFull, NotStored, BadLine, NoOldForm, UnknownAction, BadRate, PastEnd}
+use Rattle.refusals.specs.declared.Place.{Place as Place·code}
+use Rattle.refusals.specs.declared.Place.the-variants.{Nowhere, Octet}
 use Rattle.refusals.specs.declared.Fault.{Fault}
-use Rattle.refusals.specs.Refusals.{outerNumber, outerCarried, numberOf, carriedOf}
+use Rattle.refusals.specs.Refusals.{outerNumber, outerCarried, numberOf, carriedOf, placeOf, told}
 
 -- the refusal of a number, with what it carries
 abbrev outerOf : ℕ → List ℕ → OuterError
@@ -94,8 +97,19 @@ error-back BadPacket = refl
 error-back (MixedFamily a) = refl
 error-back (Outer e) = outer-error e ∙ ap Outer (outer-back e)
 
-abbrev pub faultOf : ℕ → List ℕ → Fault
-faultOf n ns = record { error = errorOf n ns }
+abbrev codeOf : Place → Place·code
+codeOf nowhere = Nowhere
+codeOf (at-octet at) = Octet at
 
-pub fault-back : (f : Fault) → faultOf (numberOf (f .error)) (carriedOf (f .error)) ≡ f
-fault-back f = ap (λ (e : FlowSpecError). record { error = e }) (error-back (f .error))
+place-back : (p : Place·code) → codeOf (placeOf p) ≡ p
+place-back Nowhere = refl
+place-back (Octet at) = refl
+
+abbrev pub faultOf : Refused → Fault
+faultOf f = record { error = errorOf (f .number) (f .carried); place = codeOf (f .place) }
+
+pub fault-back : (f : Fault) → faultOf (told f) ≡ f
+fault-back f = ap₂ (λ (e : FlowSpecError) (p : Place·code). record { error = e; place = p }) (error-back (f .error)) (place-back (f .place))
+
+pub fault-once : (f g : Fault) → told f ≡ told g → f ≡ g
+fault-once f g h = sym (fault-back f) ∙ ap faultOf h ∙ fault-back g

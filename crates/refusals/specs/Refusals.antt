@@ -1,12 +1,14 @@
 -- Each refusal's number and the numbers that it carries: document 01, "What comes back"; those from 15 on are document 02's.
-use Prim.Native.Nat.{ℕ}
+use Prim.Native.Nat.{ℕ, _+_, _^_, _<_}
 use mathlib.Core.List.{List, [], _∷_}
 use lib.ListN.{length, getD}
-use Rattle.ground.specs.Answers.{Answer, refuses}
+use Rattle.ground.specs.Answers.{Place, nowhere, at-octet, Refused, refused, Answer, declines}
 use Rattle.refusals.specs.declared.OuterError.{OuterError}
 use Rattle.refusals.specs.declared.OuterError.the-variants.{BadAttribute, ShortPacket, BadHeader, TooManyHeaders, ShortDistinguisher, MixedDistinguisher, TableFull, NotStored, BadLine, NoOldForm, UnknownAction, BadRate, PastEnd}
 use Rattle.refusals.specs.declared.FlowSpecError.{FlowSpecError}
 use Rattle.refusals.specs.declared.FlowSpecError.the-variants.{InsufficientData, InvalidComponentOrder, InvalidComponentType, InvalidPrefix, InvalidOperator, InvalidValueLength, ValueTooLarge, InputTooLong, NoRoom, BadRecord, BadFamily, TooManyRules, BadPacket, MixedFamily, Outer}
+use Rattle.refusals.specs.declared.Place.{Place as Place·code}
+use Rattle.refusals.specs.declared.Place.the-variants.{Nowhere, Octet}
 use Rattle.refusals.specs.declared.Fault.{Fault}
 use Rattle.refusals.specs.declared.Numbers.{Numbers}
 
@@ -78,6 +80,18 @@ carriedOf (Outer e) = outerCarried e
 abbrev pub numbersOf : ℕ → List ℕ → Numbers
 numbersOf number carried = record { number = number; count = length carried; first = getD carried 0 0; second = getD carried 1 0 }
 
--- a refusal as an answer
+abbrev pub placeOf : Place·code → Place
+placeOf Nowhere = nowhere
+placeOf (Octet at) = at-octet at
+
+-- a refusal as the documents tell it, and as an answer
+abbrev pub told : Fault → Refused
+told f = refused (numberOf (f .error)) (carriedOf (f .error)) (placeOf (f .place))
+
 abbrev pub refusal {ℓ} : {A : Type ℓ} → Fault → Answer A
-refusal f = refuses (numberOf (f .error)) (carriedOf (f .error))
+refusal f = declines (told f)
+
+-- a place that can be moved: what it becomes is a number of 64 bits
+abbrev pub Movable : ℕ → Place·code → Type 0
+Movable start Nowhere = Unit
+Movable start (Octet at) = start + at < 2 ^ 64

@@ -1,6 +1,7 @@
 // What a call refuses with. The names are the Rust's where it has one; the others, from the seventh on, are the documents'.
 ghost use mathlib.Core.Path.{_≡_};
-ghost use Rattle.refusals.specs.Refusals.{outerNumber, outerCarried, numberOf, carriedOf, numbersOf};
+ghost use Rattle.ground.specs.Answers.{movedBy};
+ghost use Rattle.refusals.specs.Refusals.{outerNumber, outerCarried, numberOf, carriedOf, numbersOf, told, Movable};
 
 // Refusals of what is built around rules: attributes, headers, distinguishers, tables, texts, actions, logs.
 pub enum OuterError {
@@ -40,9 +41,37 @@ pub enum FlowSpecError {
     Outer(OuterError),
 }
 
-// A refusal on its way up. One field today; a place can join it without a change in those who pass it on.
+// Where it broke: at an octet, whose place is counted from the start of the octets that were lent, or nowhere in them.
+pub enum Place {
+    Nowhere,
+    Octet(usize),
+}
+
+// A refusal on its way up.
 pub struct Fault {
     pub error: FlowSpecError,
+    pub place: Place,
+}
+
+impl Fault {
+    // The refusal of a part, told of the octets that the part was lent from: its place is moved by the part's start. No entry point.
+    pub fn moved(self, start: usize) -> Fault
+        requires { ⌜ Movable start (self .place) ⌝ }
+        ensures { λ r. ⌜ told r ≡ movedBy start (told self) ⌝ }
+    {
+        let error = self.error;
+        let place = self.place;
+        match place {
+            Place::Nowhere => Fault {
+                error: error,
+                place: Place::Nowhere,
+            },
+            Place::Octet(at) => Fault {
+                error: error,
+                place: Place::Octet(start + at),
+            },
+        }
+    }
 }
 
 // A refusal as the documents number it: its number, how many numbers it carries, and those, 0 where there is none.

@@ -6,6 +6,7 @@ use choices::Reading;
 use reading::ReadInto;
 use refusals::Fault;
 use refusals::FlowSpecError;
+use refusals::Place;
 use rules::FlowSpecComponent;
 use rules::FlowSpecNlri;
 use rules::NetworkPrefix;
@@ -101,6 +102,7 @@ pub fn read_front(
     if input.len() < n {
         return ReadInto::Refused(Fault {
             error: FlowSpecError::InputTooLong(n),
+            place: Place::Nowhere,
         });
     }
     reading::read_into(Reading::Plain, &input[..n], words, values, octets)

@@ -7,7 +7,7 @@ use mathlib.Core.List.{List, _++_, append-assoc}
 use native.Mathlib.Omega.{arith}
 use lib.ListN.{length, take, length-append}
 use lib.Seq.{take-append-seam, drop-append-seam}
-use Rattle.ground.specs.Answers.{accepts}
+use Rattle.ground.specs.Answers.{Answer, answerBy, accepts}
 use Rattle.octets.specs.declared.Length.{Length}
 use Rattle.octets.specs.Lengths.{lengthAt, lengthOctets}
 use Rattle.choices.specs.declared.Reading.{Reading}
@@ -33,7 +33,7 @@ module _ (w : Reading) (s : List ℕ) (l : Length) (b : Body) (e : lengthAt s 0 
   unfolding readAt
   read-by n i q =
       rw (n, e)
-      (stated-walk w s (l .next .at) (l .size) (omega arith) (omega arith) i ∙ ap (ruled (familyOf w) (l .next .at + l .size)) q)
+      (stated-walk w s (l .next .at) (l .size) (omega arith) (omega arith) i ∙ ap (λ (a : Answer Body). ruled (familyOf w) (l .next .at + l .size) (answerBy (l .next .at) a)) q)
 
 -- in a standard reading the walk sees what stands before the stated end
 read-stated : (w : Reading) → Standard w → (s : List ℕ) (l : Length) (b : Body) → lengthAt s 0 ≡ accepts l → l .next .at + l .size ≤ length s

@@ -12,7 +12,7 @@ use Rattle.verdicts.specs.Verdicts.{toldMatched, toldRanked}
 
 abbrev matchedOf : Answer Bool → Matched
 matchedOf (accepts b) = Matches b
-matchedOf (declines f) = NotMatched (faultOf (f .number) (f .carried))
+matchedOf (declines f) = NotMatched (faultOf f)
 
 matched-back : (a : Matched) → matchedOf (toldMatched a) ≡ a
 matched-back (Matches b) = refl
@@ -23,7 +23,7 @@ matched-once a b h = sym (matched-back a) ∙ ap matchedOf h ∙ matched-back b
 
 abbrev rankedOf : Answer Order → Ranked
 rankedOf (accepts o) = Ranks o
-rankedOf (declines f) = NotRanked (faultOf (f .number) (f .carried))
+rankedOf (declines f) = NotRanked (faultOf f)
 
 ranked-back : (a : Ranked) → rankedOf (toldRanked a) ≡ a
 ranked-back (Ranks o) = refl

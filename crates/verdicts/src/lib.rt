@@ -20,6 +20,7 @@ use choices::Standard;
 use ranking::Order;
 use refusals::Fault;
 use refusals::FlowSpecError;
+use refusals::Place;
 use rules::NetworkPrefix;
 use stored::Piece;
 use wide::Wide;
@@ -441,17 +442,20 @@ pub fn matches(words: &[u64], values: &[u64], octets: &[u8], packet: &[u64]) -> 
     if !packets::check_words(packet) {
         return Matched::Refused(Fault {
             error: FlowSpecError::BadPacket,
+            place: Place::Nowhere,
         });
     }
     let j = judge(words, 0, values, octets, packet, true);
     if !j.formed {
         return Matched::Refused(Fault {
             error: FlowSpecError::BadRecord,
+            place: Place::Nowhere,
         });
     }
     if stored::family_at(words, 0) != packets::family_of(packet) {
         return Matched::Refused(Fault {
             error: FlowSpecError::MixedFamily(0),
+            place: Place::Nowhere,
         });
     }
     Matched::Is(j.met)
@@ -471,16 +475,19 @@ pub fn rank(
     if !well_formed(words, 0, values, octets) {
         return Ranked::Refused(Fault {
             error: FlowSpecError::BadRecord,
+            place: Place::Nowhere,
         });
     }
     if !well_formed(words2, 0, values2, octets2) {
         return Ranked::Refused(Fault {
             error: FlowSpecError::BadRecord,
+            place: Place::Nowhere,
         });
     }
     if stored::family_at(words, 0) != stored::family_at(words2, 0) {
         return Ranked::Refused(Fault {
             error: FlowSpecError::MixedFamily(1),
+            place: Place::Nowhere,
         });
     }
     let order = ranking::compare_rules(words, 0, values, octets, words2, 0, values2, octets2);

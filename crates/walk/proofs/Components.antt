@@ -7,7 +7,7 @@ use mathlib.Core.Logic.{⊎-elim}
 use native.Mathlib.Omega.{arith}
 use lib.ListN.{length, getD}
 use Rattle.ground.proofs.Answers.{never}
-use Rattle.ground.specs.Answers.{Answer, accepts, refuses, declines}
+use Rattle.ground.specs.Answers.{Answer, Refused, accepts, declines}
 use Rattle.ground.proofs.Cases.{lt-or-le}
 use Rattle.choices.specs.declared.Reading.{Reading}
 use Rattle.choices.specs.declared.Reading.the-variants.{Plain, Ipv4, Ipv6}
@@ -96,6 +96,6 @@ sighted (accepts p) {n} {m} e =
     record { what = p; is = refl; count = sym (ap (λ (x : Sight). x .operators) z); next = sym (ap (λ (x : Sight). x .next) z) }
 sighted (declines f) e = never (sym e)
 
-pub unseen : (a : Answer FoundAt) {n : ℕ} {c : List ℕ} → refuses n c ≡ seen a → a ≡ refuses n c
+pub unseen : (a : Answer FoundAt) {f : Refused} → declines f ≡ seen a → a ≡ declines f
 unseen (accepts p) e = never e
 unseen (declines f) e = cc

@@ -3,4 +3,5 @@ pub mod Components
 pub mod Turns
 pub mod Once
 pub mod Refusals
+pub mod Places
 pub mod Chains

@@ -11,7 +11,7 @@ use Rattle.walk.specs.Walks.{Sight, toldFound, toldWalk}
 
 abbrev foundOf : Answer Sight → Found
 foundOf (accepts x) = Component (x .operators) (record { at = x .next })
-foundOf (declines f) = Refused (faultOf (f .number) (f .carried))
+foundOf (declines f) = Refused (faultOf f)
 
 found-back : (a : Found) → foundOf (toldFound a) ≡ a
 found-back (Component n c) = refl
@@ -22,7 +22,7 @@ found-once a b h = sym (found-back a) ∙ ap foundOf h ∙ found-back b
 
 abbrev walkedOf : Answer ℕ → Walked
 walkedOf (accepts n) = Accepted n
-walkedOf (declines f) = NotAccepted (faultOf (f .number) (f .carried))
+walkedOf (declines f) = NotAccepted (faultOf f)
 
 walked-back : (a : Walked) → walkedOf (toldWalk a) ≡ a
 walked-back (Accepted n) = refl

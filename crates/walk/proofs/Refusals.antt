@@ -67,7 +67,7 @@ met-of m (declines f) h = h f refl
 met-list : (r : Reading) (t : ℕ) (s : List ℕ) (at : ℕ) → Met (walkMeets r) (listAt r t s at)
 met-list r t s at =
     met-of (walkMeets r) (listAt r t s at)
-    (λ f e. list-refuses r t s (λ (f : Refused). walkMeets r (f .number) ≡ true) (one r) (λ x h. five r (kindOf t) x h) at e)
+    (λ f e. list-refuses r t s (λ (f : Refused). walkMeets r (f .number) ≡ true) (one r) (λ i h. five r (kindOf t) (getD s i 0) h) at e)
 
 prefix-met : (m : ℕ → Bool) (t : ℕ) (a : Answer PrefixAt) → Met m a → Met m (prefixFound t a)
 prefix-met m t (accepts p) h = tt

@@ -7,7 +7,7 @@ use mathlib.Core.List.{List, []}
 use native.Mathlib.Omega.{arith}
 use borrow.Author.Tests.{le-leb, lt-leb}
 use lib.ListN.{length, getD, length-append}
-use Rattle.ground.specs.Answers.{Answer, accepts, refuses, declines}
+use Rattle.ground.specs.Answers.{Answer, Refused, accepts, declines}
 use Rattle.choices.specs.declared.Reading.{Reading}
 use Rattle.choices.specs.declared.Reading.the-variants.{Plain, Ipv4, Ipv6}
 use Rattle.choices.specs.Choices.{lastType}
@@ -34,7 +34,7 @@ module _ (r : Reading) (s : List ℕ) (stop at previous start j : ℕ) (few : j 
     unfolding rest walkFrom
     step-of = let f : 14 - j ≡ suc (14 - (j + 1)) = omega arith in rw (f, lt-leb stop at h)
 
-    pub rest-refused : {n : ℕ} {c : List ℕ} → componentAt r s at previous start ≡ refuses n c → rest r s stop at previous start j ≡ refuses n c
+    pub rest-refused : {f : Refused} → componentAt r s at previous start ≡ declines f → rest r s stop at previous start j ≡ declines f
     rest-refused e = step-of ∙ rw e
 
     pub rest-part : {p : FoundAt} → componentAt r s at previous start ≡ accepts p
@@ -72,7 +72,7 @@ module _ {r : Reading} {s : List ℕ} {stop at previous operators : ℕ} (w : Wa
       ∙ sym (w .same ∙ ap (countedOn operators) (rest-end r s stop at previous operators (w .components) few-of h))
 
   module _ (h : at < stop) where
-    pub walking-refused : {n : ℕ} {c : List ℕ} → refuses n c ≡ seen (componentAt r s at previous operators) → refuses n c ≡ counted (walkAt r s stop)
+    pub walking-refused : {f : Refused} → declines f ≡ seen (componentAt r s at previous operators) → declines f ≡ counted (walkAt r s stop)
     walking-refused e =
         sym (w .same ∙ ap (countedOn operators) (rest-refused r s stop at previous operators (w .components) few-of h (unseen (componentAt r s at previous operators) e)))
 

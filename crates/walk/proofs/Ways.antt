@@ -4,7 +4,7 @@ use mathlib.Core.Path.{_≡_, refl, sym, _∙_, ap}
 use mathlib.Core.List.{List, [], _∷_}
 use borrow.Author.Tests.{le-leb, lt-leb, lt-ltb, le-ltb}
 use lib.ListN.{length, getD}
-use Rattle.ground.specs.Answers.{Answer, accepts, refuses, declines}
+use Rattle.ground.specs.Answers.{Answer, accepts, refusesAt, declines}
 use Rattle.choices.specs.declared.Reading.{Reading}
 use Rattle.choices.specs.Choices.{lastType}
 use Rattle.prefixes.specs.declared.Extent.{Extent}
@@ -16,17 +16,17 @@ use Rattle.lists.proofs.Laws.{recorded-counts}
 use Rattle.walk.specs.Walks.{prefixFound, listFound, typedAt, componentAt, Sight, sight, seen}
 
 module _ (r : Reading) (s : List ℕ) (at previous start : ℕ) where
-  pub found-missing : length s ≤ at → componentAt r s at previous start ≡ refuses 1 []
+  pub found-missing : length s ≤ at → componentAt r s at previous start ≡ refusesAt 1 [] (length s)
   unfolding componentAt
   found-missing h = simp (le-leb _ _ h)
 
   module _ (h : at < length s) where
-    pub found-order : getD s at 0 ≤ previous → componentAt r s at previous start ≡ refuses 2 (previous ∷ getD s at 0 ∷ [])
+    pub found-order : getD s at 0 ≤ previous → componentAt r s at previous start ≡ refusesAt 2 (previous ∷ getD s at 0 ∷ []) at
     unfolding componentAt
     found-order k = simp (lt-leb _ _ h, le-leb _ _ k)
 
     module _ (k : previous < getD s at 0) where
-      pub found-type : lastType r < getD s at 0 → componentAt r s at previous start ≡ refuses 3 (getD s at 0 ∷ [])
+      pub found-type : lastType r < getD s at 0 → componentAt r s at previous start ≡ refusesAt 3 (getD s at 0 ∷ []) at
       unfolding componentAt
       found-type l = simp (lt-leb _ _ h, lt-leb _ _ k, lt-ltb _ _ l)
 

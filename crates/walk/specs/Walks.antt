@@ -4,7 +4,7 @@ use Prim.Native.Nat.{ℕ, zero, suc, _+_}
 use mathlib.Core.List.{List, [], _∷_, _++_}
 use lib.ListN.{length, getD}
 use lib.Dec.{ltb, leb}
-use Rattle.ground.specs.Answers.{Answer, accepts, refuses, declines}
+use Rattle.ground.specs.Answers.{Answer, accepts, refusesAt, declines}
 use Rattle.ground.specs.Picks.{pick}
 use Rattle.refusals.specs.Refusals.{refusal}
 use Rattle.choices.specs.declared.Reading.{Reading}
@@ -46,12 +46,12 @@ typedAt reading type s at start =
     (listFound type start (recordedOps reading type (opsAt s at)) (listAt reading type s at))
 
 -- "Each component starts with a type octet. Checks: the type must exceed the previous one (0 at first), then it must be known (1 to 13; in
--- the standard IPv4 reading 1 to 12)"; "any octet missing before its bound" is 1
+-- the standard IPv4 reading 1 to 12)"; "any octet missing before its bound" is 1. Order and type are refused at the type octet
 unfoldable pub componentAt : Reading → List ℕ → ℕ → ℕ → ℕ → Answer FoundAt
 componentAt reading s at previous start =
-    pick (leb (length s) at) (refuses 1 [])
-    (pick (leb (getD s at 0) previous) (refuses 2 (previous ∷ getD s at 0 ∷ []))
-    (pick (ltb (lastType reading) (getD s at 0)) (refuses 3 (getD s at 0 ∷ [])) (typedAt reading (getD s at 0) s (at + 1) start)))
+    pick (leb (length s) at) (refusesAt 1 [] (length s))
+    (pick (leb (getD s at 0) previous) (refusesAt 2 (previous ∷ getD s at 0 ∷ []) at)
+    (pick (ltb (lastType reading) (getD s at 0)) (refusesAt 3 (getD s at 0 ∷ []) at) (typedAt reading (getD s at 0) s (at + 1) start)))
 
 -- the pieces of a body, and their operators one after the other
 pub record Body : Type 0 where
@@ -73,7 +73,7 @@ turn type start (declines f) go = declines f
 -- from a place on: components start before `stop`, "a last component may overrun it" where the octets go on. The first number bounds the
 -- components: their types rise from 1 to 13
 unfoldable pub walkFrom : ℕ → Reading → List ℕ → ℕ → ℕ → ℕ → ℕ → Answer Body
-walkFrom zero reading s stop at previous start = refuses 1 []
+walkFrom zero reading s stop at previous start = refusesAt 1 [] (length s)
 walkFrom (suc k) reading s stop at previous start =
     pick (leb stop at) (accepts (body [] [])) (turn (getD s at 0) start (componentAt reading s at previous start) (walkFrom k reading s stop))
 

@@ -12,6 +12,7 @@ use octets::Cursor;
 use prefixes::ExtentRead;
 use refusals::Fault;
 use refusals::FlowSpecError;
+use refusals::Place;
 
 // One component: how many operators it has, and the cursor moved past it.
 pub enum Found {
@@ -33,6 +34,7 @@ pub fn component_at(reading: Reading, s: &[u8], c: Cursor, previous: u8) -> Foun
     if s.len() <= at {
         return Found::Refused(Fault {
             error: FlowSpecError::InsufficientData,
+            place: Place::Octet(s.len()),
         });
     }
     let tag = s[at];
@@ -42,11 +44,13 @@ pub fn component_at(reading: Reading, s: &[u8], c: Cursor, previous: u8) -> Foun
                 expected_greater_than: previous,
                 found: tag,
             },
+            place: Place::Octet(at),
         });
     }
     if choices::last_type(reading) < tag {
         return Found::Refused(Fault {
             error: FlowSpecError::InvalidComponentType(tag),
+            place: Place::Octet(at),
         });
     }
     let body = Cursor { at: at + 1 };

@@ -12,7 +12,7 @@ use Rattle.writing.specs.Writings.{toldWritten}
 
 abbrev writtenOf : Answer ℕ → Written
 writtenOf (accepts n) = Octets n
-writtenOf (declines f) = Refused (faultOf (f .number) (f .carried))
+writtenOf (declines f) = Refused (faultOf f)
 
 written-back : (a : Written) → writtenOf (toldWritten a) ≡ a
 written-back (Octets n) = refl
@@ -23,7 +23,7 @@ written-once a b h = sym (written-back a) ∙ ap writtenOf h ∙ written-back b
 
 abbrev measuredOf : Answer ℕ → Measured
 measuredOf (accepts n) = Body n
-measuredOf (declines f) = NotMeasured (faultOf (f .number) (f .carried))
+measuredOf (declines f) = NotMeasured (faultOf f)
 
 measured-back : (a : Measured) → measuredOf (toldMeasured a) ≡ a
 measured-back (Body n) = refl

@@ -26,6 +26,7 @@ use choices::Standard;
 use measuring::Measured;
 use refusals::Fault;
 use refusals::FlowSpecError;
+use refusals::Place;
 use rules::NetworkPrefix;
 use stored::Piece;
 
@@ -174,11 +175,13 @@ pub fn measure(writing: Reading, words: &[u64], values: &[u64], octets: &[u8]) -
     if words.len() < 64 {
         return Measured::Refused(Fault {
             error: FlowSpecError::BadRecord,
+            place: Place::Nowhere,
         });
     }
     if !stored::is_framed(words, 0) {
         return Measured::Refused(Fault {
             error: FlowSpecError::BadRecord,
+            place: Place::Nowhere,
         });
     }
     let count = stored::count_at(words, 0);
@@ -251,6 +254,7 @@ pub fn write_from(
             if out.len() < size {
                 return Written::Refused(Fault {
                     error: FlowSpecError::NoRoom(size),
+                    place: Place::Nowhere,
                 });
             }
             put(writing, words, values, octets, body, out);

@@ -69,11 +69,16 @@ impl Desk {
             [b"plain_read", octets, places] => self.read(0, 0, octets, places, answer),
             [b"std_read4", octets, places] => self.read(1, 4, octets, places, answer),
             [b"std_read6", octets, places] => self.read(1, 6, octets, places, answer),
+            [b"std_read", family, protocol::NONE, octets, places] => {
+                self.std_read(protocol::octet_number(family)?, octets, places, answer)
+            }
+            [b"std_read", _, _, _, _] => Err(Bad(NO_DISTINGUISHER)),
             [b"check", b"plain", octets] => self.check(0, 0, octets, answer),
             [b"check", family, octets] => {
                 let family = protocol::octet_number(family).map_err(|_| Bad(NO_READING))?;
                 self.check(1, family, octets, answer)
             }
+            [b"plain_place", octets] => self.plain_place(octets, answer),
             [b"plain_write", rule, values, octets, room] => {
                 self.write(0, 0, [rule, values, octets, room], answer)
             }
@@ -117,12 +122,38 @@ impl Desk {
         Ok(Ok(()))
     }
 
+    fn std_read(&mut self, family: u8, octets: &[u8], places: &[u8], answer: &mut Vec<u8>) -> Said {
+        let places = lent(protocol::number(places)?)?;
+        protocol::octets(octets, &mut self.input)?;
+        match self.one.read(1, family, &self.input, (places, places)) {
+            Ok((used, operators)) => {
+                put_read(used, operators, answer);
+                answer.extend_from_slice(b" - ");
+                self.one.put_rule(answer);
+            }
+            Err(refusal) => put_placed(refusal, answer),
+        }
+        Ok(Ok(()))
+    }
+
     fn check(&mut self, standard: u8, family: u8, octets: &[u8], answer: &mut Vec<u8>) -> Said {
         protocol::octets(octets, &mut self.input)?;
         let said = surface::check(standard, family, &self.input);
         Ok(said
             .accepted()
             .map(|(used, operators)| put_read(used, operators, answer)))
+    }
+
+    fn plain_place(&mut self, octets: &[u8], answer: &mut Vec<u8>) -> Said {
+        protocol::octets(octets, &mut self.input)?;
+        match surface::check(0, 0, &self.input).accepted() {
+            Ok((used, _)) => {
+                answer.extend_from_slice(b"ok ");
+                protocol::put_number(used as u64, answer);
+            }
+            Err(refusal) => put_placed(refusal, answer),
+        }
+        Ok(Ok(()))
     }
 
     fn write(
@@ -209,6 +240,7 @@ impl Desk {
 
 const NO_CALL: &str = "no call has this name and this number of fields";
 const NO_READING: &str = "a check is by plain or by a family, a number up to 255";
+const NO_DISTINGUISHER: &str = "no reading expects a distinguisher, which is said by -";
 
 impl Lists {
     fn new() -> Self {
@@ -308,6 +340,13 @@ fn put_read(used: usize, operators: usize, answer: &mut Vec<u8>) {
     protocol::put_number(used as u64, answer);
     answer.push(b' ');
     protocol::put_number(operators as u64, answer);
+}
+
+/// A refusal with its place.
+fn put_placed(refusal: Refusal, answer: &mut Vec<u8>) {
+    let carried: Vec<u64> = refusal.carried().collect();
+    let place = refusal.place().map(|place| place as u64);
+    protocol::put_placed_refusal(refusal.number().into(), &carried, place, answer);
 }
 
 /// A number of places to be lent.

@@ -59,6 +59,19 @@ fn what_cannot_be_read_is_answered_bad_and_the_next_line_is_read() {
         "plain_read\t00\t18446744073709551616,0".to_string(),
         "plain_read\t00\t0,0\r".to_string(),
         "std_read5\t00\t0,0".to_string(),
+        "std_read\t4\t00\t0".to_string(),
+        "std_read\t4\t-\t00\t0,0".to_string(),
+        "std_read\t4\t-\t00\t1048577".to_string(),
+        "std_read\t4\t-\t0\t0".to_string(),
+        "std_read\t256\t-\t00\t0".to_string(),
+        "std_read\t4\trd\t00\t0".to_string(),
+        "std_read\t4\t\t00\t0".to_string(),
+        "std_read\t4\t-\t00\t0\t".to_string(),
+        "plain_place".to_string(),
+        "plain_place\t".to_string(),
+        "plain_place\t0".to_string(),
+        "plain_place\tf0".to_string(),
+        "plain_place\t00\t0,0".to_string(),
         "check".to_string(),
         "check\t4".to_string(),
         "check\t4\t00\t0,0".to_string(),
@@ -156,6 +169,33 @@ fn long_lines_and_many_lines_are_answered_each_by_one() {
 }
 
 #[test]
+fn two_calls_say_where_the_octets_broke() {
+    let lines = [
+        ("plain_place\t03038106", "ok 4"),
+        ("plain_place\t0203810605", "ok 3"),
+        ("plain_place\t-", "err 1 - @0"),
+        ("plain_place\t06038106038111", "err 2 3,3 @4"),
+        ("plain_place\t03038906", "err 5 137 @2"),
+        (
+            "std_read\t4\t-\t08050350455A9101BB\t3",
+            "ok 9 3 - 5:03=80,45=90,91=443",
+        ),
+        ("std_read\t4\t-\t08050350455A9101BB\t2", "err 9 3 @-"),
+        ("std_read\t4\t-\t0203810605\t9", "err 1 - @3"),
+        ("std_read\t6\t-\t03014040\t0", "err 4 - @2"),
+        ("std_read\t5\t-\t03014040\t0", "err 11 5 @-"),
+    ];
+    let too_long = format!("plain_place\t{}", "00".repeat(4098));
+    let requests = lines.map(|(request, _)| request).join("\n") + "\n" + &too_long;
+    let text = String::from_utf8(answer(&[], requests.as_bytes()).stdout).unwrap();
+    let wanted: Vec<&str> = lines.iter().map(|(_, answer)| *answer).collect();
+    assert_eq!(
+        text.lines().collect::<Vec<_>>(),
+        [wanted, vec!["err 8 4098 @-"]].concat()
+    );
+}
+
+#[test]
 fn an_answer_comes_before_the_next_request_is_asked_for() {
     let mut child = command().spawn().unwrap();
     let (mut stdin, mut stdout) = (child.stdin.take().unwrap(), child.stdout.take().unwrap());
@@ -182,7 +222,9 @@ fn the_command_line_is_checked() {
         "plain_read",
         "std_read4",
         "std_read6",
+        "std_read ",
         "check",
+        "plain_place",
         "plain_write",
         "std_write",
         "match",

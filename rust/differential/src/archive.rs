@@ -12,6 +12,7 @@ impl From<Answer> for crate::Answer {
             status: answer.status,
             first: answer.first,
             second: answer.second,
+            place: Some(answer.place).filter(|&place| place != surface::NOWHERE),
         }
     }
 }

@@ -71,7 +71,10 @@ impl Comparison {
     /// is refused, room does not matter. The same input is checked.
     pub fn reading(&mut self, form: Form, input: &[u8]) {
         let turn = self.compared as usize;
-        let answer = peers::read(form, input, &mut self.stored);
+        let mut answer = peers::read(form, input, &mut self.stored);
+        if form == Form::Plain {
+            answer.place = self.plain_place(input, answer);
+        }
         self.count(answer, "accepted");
         self.checking(form, input, answer);
         if !answer.is_accepted() {
@@ -106,6 +109,24 @@ impl Comparison {
                 return;
             }
         }
+    }
+
+    /// The place of a plain reading's refusal. The original tells none; `standard` does, and in all
+    /// else must answer as the original.
+    fn plain_place(&mut self, input: &[u8], original: Answer) -> Option<u64> {
+        let answer = peers::plain_used(input);
+        let same = match original.status {
+            0 => answer.is_accepted() && answer.first == original.first,
+            _ => answer.without_place() == original,
+        };
+        if !same {
+            self.difference(&[
+                format!("differ: plain reading of {} by Rust", hex(input)),
+                format!("  original: {}", check_text(original)),
+                format!("  standard: {}", check_text(answer)),
+            ]);
+        }
+        answer.place
     }
 
     /// Whether the proved reading, lent so much, answers so, but for NoRoom, and leaves the lists so.
@@ -171,6 +192,67 @@ impl Comparison {
             format!("  proved: {}", check_text(found)),
             format!("  wanted: {}", check_text(wanted)),
             format!("  timed: {}", check_text(timed)),
+        ]);
+    }
+
+    /// Compares every truncation of an accepted input with what must come of it, whatever the peers
+    /// say. Octets that are cut off are missing at the truncation's length. Where the length field is
+    /// cut back, the rule ends with a component or octets are missing at the stated end; the plain
+    /// reading goes on to octets behind that.
+    pub fn truncations(&mut self, form: Form, input: &[u8]) {
+        let answer = peers::read(form, input, &mut self.stored);
+        if !answer.is_accepted() {
+            return;
+        }
+        let used = answer.first as usize;
+        for left in 0..used {
+            self.truncation(form, &input[..left], left, &[Told::Missing]);
+        }
+        let start = if input[0] < 240 { 1 } else { 2 };
+        let either = [Told::Missing, Told::Ended];
+        let behind = match form {
+            Form::Plain => &either[1..],
+            Form::Standard(_) => &either,
+        };
+        let mut cut = input.to_vec();
+        for end in start..used {
+            let length = end - start;
+            cut[start - 1] = length as u8;
+            if start == 2 {
+                cut[0] = 0xF0 | (length >> 8) as u8;
+            }
+            self.truncation(form, &cut, end, behind);
+            self.truncation(form, &cut[..end], end, &either);
+        }
+    }
+
+    /// Whether reading and checking what was cut off at this end tell one thing of these. What was
+    /// cut is the rule that is stored.
+    fn truncation(&mut self, form: Form, cut: &[u8], end: usize, wanted: &[Told]) {
+        self.calls += 2;
+        let (turn, places) = (self.calls, self.stored.values.len());
+        let found = Answer::from(archive::check(form, cut));
+        let read = Answer::from(archive::read(
+            form,
+            cut,
+            self.words.lend(WORDS, turn),
+            self.values.lend(places, turn),
+            self.octets.lend(places, turn),
+        ));
+        self.count(found, "ends with a component");
+        let missing = Answer::refused(refusal::INSUFFICIENT_DATA, 0, 0).at(Some(end));
+        let is_so = |told: &Told| match told {
+            Told::Missing => found == missing,
+            Told::Ended => found.is_accepted() && found.first == end as u64,
+        };
+        if read == found && wanted.iter().any(is_so) {
+            return;
+        }
+        self.difference(&[
+            format!("differ: {form} truncation {}", hex(cut)),
+            format!("  read: {}", check_text(read)),
+            format!("  checked: {}", check_text(found)),
+            format!("  wanted: {wanted:?} at {end}"),
         ]);
     }
 
@@ -244,6 +326,13 @@ impl Comparison {
     }
 }
 
+/// What may come of a truncation.
+#[derive(Debug)]
+enum Told {
+    Missing,
+    Ended,
+}
+
 /// What a reading is lent.
 #[derive(Clone, Copy)]
 struct Room {
@@ -301,7 +390,8 @@ fn check_text(answer: Answer) -> String {
         return refusal_text(answer);
     }
     let (used, operators) = (answer.first, answer.second);
-    format!("accepted, used {used}, operators {operators}")
+    let place = place_text(answer);
+    format!("accepted, used {used}, operators {operators}{place}")
 }
 
 fn writing_text(answer: Answer, output: &[u8]) -> String {
@@ -309,16 +399,22 @@ fn writing_text(answer: Answer, output: &[u8]) -> String {
         return refusal_text(answer);
     }
     let octets = hex(front(output, answer.first));
-    format!("accepted ({}, {}), {octets}", answer.first, answer.second)
+    format!("accepted {}, {octets}", numbers_text(answer))
 }
 
 pub(crate) fn refusal_text(answer: Answer) -> String {
-    let Answer {
-        status,
-        first,
-        second,
-    } = answer;
-    format!("refusal {status} ({first}, {second})")
+    format!("refusal {} {}", answer.status, numbers_text(answer))
+}
+
+pub(crate) fn numbers_text(answer: Answer) -> String {
+    let place = place_text(answer);
+    format!("({}, {}){place}", answer.first, answer.second)
+}
+
+/// The place, where there is one.
+fn place_text(answer: Answer) -> String {
+    let place = answer.place.map(|place| format!(" at {place}"));
+    place.unwrap_or_default()
 }
 
 /// The words in groups of four, those of nothing but 0 left out, then the two lists.

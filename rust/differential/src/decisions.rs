@@ -2,7 +2,7 @@
 //! All that is lent is only read here, so that the answers are all there is to compare. The two
 //! choosers that are timed beside the proved one are held to the same answers.
 
-use crate::compare::{record_text, refusal_text, Comparison};
+use crate::compare::{numbers_text, record_text, refusal_text, Comparison};
 use crate::stored::{Stored, FAMILY, WORDS};
 use crate::{archive, flows, packets, peers, records, tables, Answer};
 use inputs::Random;
@@ -71,7 +71,7 @@ impl Comparison {
             .chain(timed)
         {
             let told = match answer.status {
-                0 => format!("({}, {})", answer.first, answer.second),
+                0 => numbers_text(*answer),
                 _ => refusal_text(*answer),
             };
             lines.push(format!("  {whose}: {told}"));

@@ -1,7 +1,8 @@
 //! The proved code beside Rust, in one process.
 //!
 //! `archive` calls the proved code by the crate over it, `peers` has what must come back: by the
-//! original Rust (`oracle`) for the plain reading and writing, by `standard` for the others.
+//! original Rust (`oracle`) for the plain reading and writing, by `standard` for the others and for
+//! the place of every refusal.
 //! The crate `inputs` and `records` make what readings and writings are asked, `compare` asks it and
 //! compares; `edges`, `flows`, `packets` and `tables` make what matching, ranking and choosing are
 //! asked, `decisions` asks it and compares. `validator` is a check and `wordwise` a chooser to be
@@ -32,12 +33,14 @@ pub mod wordwise;
 
 pub use inputs::{Form, LONGEST_BODY, LONGEST_INPUT};
 
-/// What a call answers: status 0 with what was found, or a refusal's number with what it carries.
+/// What a call answers: status 0 with what was found, or a refusal's number with what it carries and,
+/// where an octet of the input is to blame, that octet's place.
 #[derive(Debug, Clone, Copy, PartialEq, Eq)]
 pub struct Answer {
     pub status: u64,
     pub first: u64,
     pub second: u64,
+    pub place: Option<u64>,
 }
 
 /// Refusals by document 01's numbers, as far as they are met here.
@@ -64,6 +67,7 @@ impl Answer {
             status: 0,
             first: first as u64,
             second: second as u64,
+            place: None,
         }
     }
 
@@ -72,7 +76,19 @@ impl Answer {
             status,
             first,
             second,
+            place: None,
         }
+    }
+
+    pub fn at(self, place: Option<usize>) -> Self {
+        let place = place.map(|place| place as u64);
+        Answer { place, ..self }
+    }
+
+    /// What the original Rust tells, which has no places: the one way in which an answer that may
+    /// have one is put beside the original's.
+    pub fn without_place(self) -> Self {
+        self.at(None)
     }
 
     pub fn is_accepted(&self) -> bool {
@@ -84,7 +100,9 @@ impl Answer {
         match self.status {
             refusal::INVALID_COMPONENT_ORDER => vec![self.first, self.second],
             refusal::INVALID_COMPONENT_TYPE
+            | refusal::INVALID_OPERATOR
             | refusal::VALUE_TOO_LARGE
+            | refusal::INPUT_TOO_LONG
             | refusal::NO_ROOM
             | refusal::BAD_FAMILY
             | refusal::TOO_MANY_RULES

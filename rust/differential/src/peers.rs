@@ -1,15 +1,16 @@
 //! What a call must answer, when there is room: by the original Rust for the plain form, by the
-//! crate `standard` for the others, and by document 01 where it goes beyond them.
+//! crate `standard` for the others, and by document 01 where it goes beyond them. Where a reading
+//! broke is told by `standard`, for the plain form too.
 
 use crate::packets;
 use crate::stored::{flow, original, parts, standard_rule, Stored, WORDS};
 use crate::{refusal, validator, wordwise, Answer, Form, LONGEST_INPUT, MOST_RULES};
 use oracle::error::EncodingError;
 use oracle::flowspec::{encode_flowspec_nlri, parse_flowspec_nlri, FlowSpecError};
-use standard::{Flow, Refusal};
+use standard::{Fault, Flow, Refusal};
 use std::cmp::Ordering;
 
-/// Reads; an accepted rule stands in `stored` afterwards.
+/// Reads; an accepted rule stands in `stored` afterwards. By the original, a refusal has no place.
 pub fn read(form: Form, input: &[u8], stored: &mut Stored) -> Answer {
     match form {
         Form::Plain => plain_read(input, stored),
@@ -17,26 +18,20 @@ pub fn read(form: Form, input: &[u8], stored: &mut Stored) -> Answer {
     }
 }
 
-/// As `read`, but for the rule, by the way that is timed.
+/// The plain reading by `standard`, as far as that goes: used, or the refusal with its place.
+pub fn plain_used(input: &[u8]) -> Answer {
+    match standard::plain_used(input) {
+        Ok(used) => Answer::accepted(used, 0),
+        Err(fault) => standard_fault(fault),
+    }
+}
+
+/// What the readings answer but for the rule, by the way that is timed.
 pub fn timed_check(form: Form, input: &[u8]) -> Answer {
-    use validator::Refusal;
-    let (status, first, second) = match validator::check(form, input) {
-        Ok(checked) => return Answer::accepted(checked.used, checked.operators),
-        Err(Refusal::InsufficientData) => (refusal::INSUFFICIENT_DATA, 0, 0),
-        Err(Refusal::InvalidComponentOrder { previous, found }) => (
-            refusal::INVALID_COMPONENT_ORDER,
-            previous.into(),
-            found.into(),
-        ),
-        Err(Refusal::InvalidComponentType(found)) => {
-            (refusal::INVALID_COMPONENT_TYPE, found.into(), 0)
-        }
-        Err(Refusal::InvalidPrefix) => (refusal::INVALID_PREFIX, 0, 0),
-        Err(Refusal::InvalidOperator(octet)) => (refusal::INVALID_OPERATOR, octet.into(), 0),
-        Err(Refusal::InputTooLong(length)) => (refusal::INPUT_TOO_LONG, length as u64, 0),
-        Err(Refusal::BadFamily(family)) => (refusal::BAD_FAMILY, family.into(), 0),
-    };
-    Answer::refused(status, first, second)
+    match validator::check(form, input) {
+        Ok(checked) => Answer::accepted(checked.used, checked.operators),
+        Err(fault) => standard_fault(fault),
+    }
 }
 
 /// Writes; `written` holds the octets afterwards, none where the rule is refused.
@@ -119,7 +114,7 @@ fn standard_read(family: u8, input: &[u8], stored: &mut Stored) -> Answer {
             stored.put_standard(family, &reading.rule);
             Answer::accepted(reading.used, stored.values.len())
         }
-        Err(refusal) => standard_refusal(refusal),
+        Err(fault) => standard_fault(fault),
     }
 }
 
@@ -215,6 +210,10 @@ fn bad_record() -> Answer {
     Answer::refused(refusal::BAD_RECORD, 0, 0)
 }
 
+fn standard_fault(fault: Fault) -> Answer {
+    standard_refusal(fault.refusal).at(fault.place)
+}
+
 pub fn standard_refusal(refused: Refusal) -> Answer {
     let (status, first, second) = match refused {
         Refusal::InsufficientData => (refusal::INSUFFICIENT_DATA, 0, 0),
@@ -225,7 +224,9 @@ pub fn standard_refusal(refused: Refusal) -> Answer {
         ),
         Refusal::InvalidComponentType(found) => (refusal::INVALID_COMPONENT_TYPE, found.into(), 0),
         Refusal::InvalidPrefix => (refusal::INVALID_PREFIX, 0, 0),
+        Refusal::InvalidOperator(octet) => (refusal::INVALID_OPERATOR, octet.into(), 0),
         Refusal::ValueTooLarge(length) => (refusal::VALUE_TOO_LARGE, length as u64, 0),
+        Refusal::InputTooLong(length) => (refusal::INPUT_TOO_LONG, length as u64, 0),
         Refusal::BadRecord => (refusal::BAD_RECORD, 0, 0),
         Refusal::BadFamily(family) => (refusal::BAD_FAMILY, family.into(), 0),
         Refusal::TooManyRules(count) => (refusal::TOO_MANY_RULES, count as u64, 0),

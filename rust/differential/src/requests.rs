@@ -5,7 +5,8 @@
 use crate::stored::{Stored, COUNT, FAMILY, IPV4, IPV4_OFFSET, IPV6};
 use crate::{neutral, peers, refusal, Answer, Form};
 use protocol::{
-    put_octets, put_operators, put_refusal, put_rule, put_span, put_values, text, words,
+    put_octets, put_operators, put_placed_refusal, put_refusal, put_rule, put_span, put_values,
+    text, words,
 };
 use standard::{Flow, Packet, Refusal, Rule};
 use std::cmp::Ordering;
@@ -17,6 +18,16 @@ pub enum Request {
         input: Vec<u8>,
         values: usize,
         octets: usize,
+    },
+    /// A reading, so many places lent in each list, that tells where it broke.
+    ReadPlaced {
+        family: u8,
+        input: Vec<u8>,
+        places: usize,
+    },
+    /// The plain reading, of which only the octets used are told, or where it broke.
+    PlainPlace {
+        input: Vec<u8>,
     },
     /// Of a rule whose first place is 0.
     Write {
@@ -53,6 +64,16 @@ impl Display for Request {
                 hex(input),
                 format!("{values},{octets}"),
             ],
+            Request::ReadPlaced {
+                family,
+                input,
+                places,
+            } => vec![
+                format!("std_read\t{family}\t-"),
+                hex(input),
+                places.to_string(),
+            ],
+            Request::PlainPlace { input } => vec!["plain_place".to_string(), hex(input)],
             Request::Write {
                 family,
                 record,
@@ -89,7 +110,22 @@ impl Request {
                 input,
                 values,
                 octets,
-            } => read(*family, input, (*values).min(*octets)),
+            } => match read(*family, input, (*values).min(*octets)) {
+                Ok((used, operators, rule)) => format!("ok {used} {operators} {rule}"),
+                Err(answer) => refused(answer),
+            },
+            Request::ReadPlaced {
+                family,
+                input,
+                places,
+            } => match read(*family, input, *places) {
+                Ok((used, operators, rule)) => format!("ok {used} {operators} - {rule}"),
+                Err(answer) => refused_at(answer),
+            },
+            Request::PlainPlace { input } => match peers::plain_used(input) {
+                answer if answer.is_accepted() => format!("ok {}", answer.first),
+                answer => refused_at(answer),
+            },
             Request::Write {
                 family,
                 record,
@@ -119,18 +155,19 @@ impl Request {
     }
 }
 
-fn read(family: u8, input: &[u8], places: usize) -> String {
+/// The octets used, the operators, and the rule.
+fn read(family: u8, input: &[u8], places: usize) -> Result<(u64, u64, String), Answer> {
     let mut stored = Stored::new(0);
     let answer = peers::read(Form::Standard(family), input, &mut stored);
     if !answer.is_accepted() {
-        return refused(answer);
+        return Err(answer);
     }
     let (used, operators) = (answer.first, answer.second);
     if places < operators as usize {
-        return refused(Answer::refused(refusal::NO_ROOM, operators, 0));
+        return Err(Answer::refused(refusal::NO_ROOM, operators, 0));
     }
     let rule = standard::read(family, input).expect("it was read").rule;
-    format!("ok {used} {operators} {}", rule_text(&rule))
+    Ok((used, operators, rule_text(&rule)))
 }
 
 fn write(family: u8, record: &Stored, room: usize) -> String {
@@ -147,7 +184,8 @@ fn write(family: u8, record: &Stored, room: usize) -> String {
 }
 
 fn flow(family: u8, input: &[u8]) -> Result<Flow, Refusal> {
-    let rule = standard::read(family, input)?.rule;
+    let reading = standard::read(family, input).map_err(|fault| fault.refusal)?;
+    let rule = reading.rule;
     Ok(Flow { family, rule })
 }
 
@@ -162,6 +200,12 @@ pub fn rank(family: u8, one: &[u8], other: &[u8]) -> Result<Ordering, Refusal> {
 /// A refusal with what it carries.
 fn refused(answer: Answer) -> String {
     text(|out| put_refusal(answer.status, answer.carried(), out))
+}
+
+/// A refusal with its place, too.
+fn refused_at(answer: Answer) -> String {
+    let place = answer.place;
+    text(|out| put_placed_refusal(answer.status, &answer.carried(), place, out))
 }
 
 pub fn hex(octets: &[u8]) -> String {

@@ -1,5 +1,7 @@
 //! The requests whose answers are stored in `tests/standard-answers`: document 01's cases, the RFCs'
-//! worked examples, edges of each call, and random ones. The same in every run.
+//! worked examples, edges of each call, and random ones; and for each reading that is refused, here
+//! and among those that `crates/replay/stdin` stores with the original's answers, the call that tells
+//! where it broke. The same in every run.
 
 use crate::requests::{can_be_said, Request};
 use crate::stored::{Stored, FAMILY, FIRST};
@@ -20,6 +22,7 @@ pub fn all() -> Vec<Request> {
     matches(&mut random, &mut list);
     rankings(&mut random, &mut list);
     choices(&mut random, &mut list);
+    places(&mut list);
     list
 }
 
@@ -67,6 +70,36 @@ fn readings(random: &mut Random, list: &mut Vec<Request>) {
             list.push(read(family, &input, places, places));
         }
     }
+}
+
+/// Where the readings before this broke, and those that are stored with the original's answers; and an
+/// input that is too long, which has no place.
+fn places(list: &mut Vec<Request>) {
+    let placed = |request: &Request| match request {
+        Request::Read {
+            family,
+            input,
+            values,
+            octets,
+        } => Some(Request::ReadPlaced {
+            family: *family,
+            input: input.clone(),
+            places: *values.min(octets),
+        }),
+        _ => None,
+    };
+    let own: Vec<Request> = list.iter().filter_map(placed).collect();
+    let replayed = oracle::requests::part("readings").expect("there is such a part");
+    let parsed = |request: String| {
+        let octets = oracle::text::octets(request.strip_prefix("parse ")?);
+        let input = octets.expect("these are octets");
+        Some(Request::PlainPlace { input })
+    };
+    let plain = replayed.into_iter().filter_map(parsed);
+    let is_refused = |request: &Request| !request.answer().starts_with("ok");
+    list.extend(own.into_iter().chain(plain).filter(is_refused));
+    let input = vec![0; LONGEST_INPUT + 1];
+    list.push(Request::PlainPlace { input });
 }
 
 /// Readings with places to spare, enough and too few.

@@ -1,27 +1,16 @@
 //! The straightforward Rust validator, to time the proved check beside it.
 //!
 //! It answers what the plain and the standard readings do: the octets used and the operators, or the
-//! same refusal. It goes over the octets once, keeps nothing and allocates nothing.
+//! same refusal at the same place. It goes over the octets once, keeps nothing and allocates nothing.
 
 use crate::{Form, LONGEST_INPUT};
+use standard::{Fault, Refusal};
 
 /// What an accepted rule takes: octets, those of its length among them, and places for operators.
 #[derive(Debug, Clone, Copy, PartialEq, Eq)]
 pub struct Checked {
     pub used: usize,
     pub operators: usize,
-}
-
-/// Why octets are no rule.
-#[derive(Debug, Clone, Copy, PartialEq, Eq)]
-pub enum Refusal {
-    InsufficientData,
-    InvalidComponentOrder { previous: u8, found: u8 },
-    InvalidComponentType(u8),
-    InvalidPrefix,
-    InvalidOperator(u8),
-    InputTooLong(usize),
-    BadFamily(u8),
 }
 
 /// The last operator of a list.
@@ -35,24 +24,24 @@ enum Reading {
 }
 
 /// Checks the rule at the front of the input.
-pub fn check(form: Form, input: &[u8]) -> Result<Checked, Refusal> {
+pub fn check(form: Form, input: &[u8]) -> Result<Checked, Fault> {
     let reading = match form {
         Form::Plain if input.len() > LONGEST_INPUT => {
-            return Err(Refusal::InputTooLong(input.len()))
+            return Err(Refusal::InputTooLong(input.len()).into())
         }
         Form::Plain => Reading::Plain,
         Form::Standard(4) => Reading::Ipv4,
         Form::Standard(6) => Reading::Ipv6,
-        Form::Standard(family) => return Err(Refusal::BadFamily(family)),
+        Form::Standard(family) => return Err(Refusal::BadFamily(family).into()),
     };
     let (from, length) = match *input {
         [first, ..] if first < 240 => (1, usize::from(first)),
         [first, second, ..] => (2, usize::from(first & 0x0F) << 8 | usize::from(second)),
-        _ => return Err(Refusal::InsufficientData),
+        _ => return Err(missing(input)),
     };
     let end = from + length;
     if end > input.len() {
-        return Err(Refusal::InsufficientData);
+        return Err(missing(input));
     }
     // By the plain reading the last component may run on past the stated end.
     let octets = match reading {
@@ -62,24 +51,25 @@ pub fn check(form: Form, input: &[u8]) -> Result<Checked, Refusal> {
     let (mut at, mut previous, mut operators) = (from, 0, 0);
     while at < end {
         let found = octets[at];
-        at += 1;
         if found <= previous {
-            return Err(Refusal::InvalidComponentOrder { previous, found });
+            return Err(Refusal::InvalidComponentOrder { previous, found }.at(at));
         }
         match found {
-            1 | 2 => at = after_prefix(reading, octets, at)?,
-            13 if reading == Reading::Ipv4 => return Err(Refusal::InvalidComponentType(found)),
+            1 | 2 => at = after_prefix(reading, octets, at + 1)?,
+            13 if reading == Reading::Ipv4 => {
+                return Err(Refusal::InvalidComponentType(found).at(at))
+            }
             3..=13 => {
                 let refused = match (reading, found) {
                     (Reading::Plain, 9 | 12) => 0x0C,
                     (Reading::Plain, _) => 0x08,
                     _ => 0,
                 };
-                let (after, count) = after_list(refused, octets, at)?;
+                let (after, count) = after_list(refused, octets, at + 1)?;
                 at = after;
                 operators += count;
             }
-            _ => return Err(Refusal::InvalidComponentType(found)),
+            _ => return Err(Refusal::InvalidComponentType(found).at(at)),
         }
         previous = found;
     }
@@ -89,9 +79,14 @@ pub fn check(form: Form, input: &[u8]) -> Result<Checked, Refusal> {
     })
 }
 
+/// An octet is missing at the end of these.
+fn missing(octets: &[u8]) -> Fault {
+    Refusal::InsufficientData.at(octets.len())
+}
+
 /// Where the prefix ends that begins here.
-fn after_prefix(reading: Reading, octets: &[u8], at: usize) -> Result<usize, Refusal> {
-    let octet = |at: usize| octets.get(at).copied().ok_or(Refusal::InsufficientData);
+fn after_prefix(reading: Reading, octets: &[u8], at: usize) -> Result<usize, Fault> {
+    let octet = |at: usize| octets.get(at).copied().ok_or_else(|| missing(octets));
     let length = octet(at)?;
     let (from, bits) = match reading {
         Reading::Plain if length <= 128 => (at + 1, length),
@@ -100,33 +95,34 @@ fn after_prefix(reading: Reading, octets: &[u8], at: usize) -> Result<usize, Ref
             let offset = octet(at + 1)?;
             let is_all = (length, offset) == (0, 0);
             if !is_all && (offset >= length || length > 128) {
-                return Err(Refusal::InvalidPrefix);
+                return Err(Refusal::InvalidPrefix.at(at));
             }
             (at + 2, length - offset)
         }
-        _ => return Err(Refusal::InvalidPrefix),
+        _ => return Err(Refusal::InvalidPrefix.at(at)),
     };
     let after = from + (usize::from(bits) + 7) / 8;
     if after > octets.len() {
-        return Err(Refusal::InsufficientData);
+        return Err(missing(octets));
     }
     Ok(after)
 }
 
 /// Where the list ends that begins here, and how many operators it has. Of these bits none may be
 /// set in an operator octet.
-fn after_list(refused: u8, octets: &[u8], mut at: usize) -> Result<(usize, usize), Refusal> {
+fn after_list(refused: u8, octets: &[u8], mut at: usize) -> Result<(usize, usize), Fault> {
     let mut count = 0;
     loop {
-        let octet = *octets.get(at).ok_or(Refusal::InsufficientData)?;
-        at += 1 + (1 << (octet >> 4 & 3));
-        if at > octets.len() {
-            return Err(Refusal::InsufficientData);
+        let octet = *octets.get(at).ok_or_else(|| missing(octets))?;
+        let after = at + 1 + (1 << (octet >> 4 & 3));
+        if after > octets.len() {
+            return Err(missing(octets));
         }
         if octet & refused != 0 {
-            return Err(Refusal::InvalidOperator(octet));
+            return Err(Refusal::InvalidOperator(octet).at(at));
         }
         count += 1;
+        at = after;
         if octet & END != 0 {
             return Ok((at, count));
         }

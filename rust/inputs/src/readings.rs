@@ -66,6 +66,7 @@ pub fn by_rule(form: Form, take: Take) {
     prefixes(form, take);
     operators(take);
     orders(form, take);
+    faults(form, take);
     let good = good_inputs(form);
     good.iter().for_each(|input| cuts(input, take));
     good.iter().for_each(|input| restated(input, take));
@@ -215,8 +216,57 @@ fn orders(form: Form, take: Take) {
     }
 }
 
+/// Each fault behind no component, one and two, the length in one octet and in two, with octets behind
+/// the stated end and with none.
+fn faults(form: Form, take: Take) {
+    let component = |kind| component(form, kind);
+    let fronts = [
+        Vec::new(),
+        component(1),
+        [3, 0x01, 0x06, 0x91, 0x00, 0x11].to_vec(),
+        [component(1), component(3)].concat(),
+    ];
+    let wrong: [&[u8]; 19] = [
+        // Order and type.
+        &[0],
+        &[1, 0x20],
+        &[14],
+        &[255, 0x81, 0x06],
+        // A prefix's length, in IPv6 also for its offset.
+        &[2, 129],
+        &[2, 33, 0],
+        &[2, 64, 64],
+        &[2, 0, 1, 0],
+        // An operator, the first and a second one.
+        &[4, 0x89, 0x06],
+        &[12, 0x85, 0x01],
+        &[4, 0x11, 0x00, 0x50, 0x9F, 0x00, 0x51],
+        &[9, 0x01, 0x02, 0xAC, 0x00, 0x00, 0x00, 0x10],
+        // A missing octet of each kind, and some of several.
+        &[2],
+        &[2, 32, 0, 0x20],
+        &[4],
+        &[4, 0x81],
+        &[4, 0x01, 0x50],
+        &[4, 0xA1, 0x00, 0x01],
+        &[12, 0x01, 0x02, 0xB9, 0x00, 0x01],
+    ];
+    let mut input = Vec::new();
+    for front in &fronts {
+        for wrong in wrong {
+            for behind in [&[][..], &[0x00], &[0x81, 0x00, 0x0E, 0x20]] {
+                let body = [front, wrong, behind].concat();
+                for two_octets in [false, true] {
+                    frame_anew(front.len() + wrong.len(), two_octets, &body, &mut input);
+                    take(&input);
+                }
+            }
+        }
+    }
+}
+
 /// The fixed inputs, and random ones that are accepted; the same in every run.
-fn good_inputs(form: Form) -> Vec<Vec<u8>> {
+pub fn good_inputs(form: Form) -> Vec<Vec<u8>> {
     let mut inputs: Vec<Vec<u8>> = FIXED.iter().map(|text| octets(text)).collect();
     let mut random = Random::new(0xF10);
     for _ in 0..400 {

@@ -1,6 +1,7 @@
-//! The errors: [`FlowSpecError`] and [`EncodingError`] as the original has them, and [`Refusal`], whatever the proved code refuses with.
+//! The errors: [`FlowSpecError`] and [`EncodingError`] as the original has them, and [`Refusal`], whatever the proved code refuses with: a
+//! [`Reason`], and the place of the octet that is refused.
 
-use crate::surface::Answer;
+use crate::surface::{Answer, NOWHERE};
 use std::error::Error;
 use std::fmt::{self, Display, Formatter};
 
@@ -105,19 +106,130 @@ impl Display for EncodingError {
 
 impl Error for EncodingError {}
 
-/// What the standard calls refuse with, and every call of [`crate::surface`]. More may join it.
+/// What the standard calls refuse with, and every call of [`crate::surface`]: the reason, and for a reading's refusals, 1 to 6, the place of
+/// the octet that is refused. `Display` says both.
 ///
 /// ```
-/// use krubbadin::{read, Family, Refusal};
+/// use krubbadin::{read, Family, Reason};
 ///
-/// let refusal = read(Family::Ipv4, &[0x04, 0x0D, 0x81, 0x00, 0x0E]).unwrap_err();
-/// assert_eq!(refusal, Refusal::InvalidComponentType(13));
-/// assert_eq!(refusal.number(), 3);
-/// assert_eq!(refusal.to_string(), "type 13, the flow label, is not in IPv4 (RFC 8956)");
+/// let refusal = read(Family::Ipv4, &[0x06, 0x03, 0x81, 0x06, 0x0D, 0x81, 0x0E]).unwrap_err();
+/// assert_eq!(refusal.reason(), Reason::InvalidComponentType(13));
+/// assert_eq!(refusal.place(), Some(4));
+/// assert_eq!(refusal.to_string(), "octet 4: type 13, the flow label, is not in IPv4 (RFC 8956)");
+/// ```
+#[derive(Debug, Clone, Copy, PartialEq, Eq, Hash)]
+pub struct Refusal {
+    reason: Reason,
+    place: Option<usize>,
+}
+
+impl Refusal {
+    /// A refusal of the octet at a place. One without a place is made from its reason.
+    ///
+    /// ```
+    /// use krubbadin::{check, Family, Reason, Refusal};
+    ///
+    /// assert_eq!(check(Family::Ipv4, &[0x02, 0x01, 0x21]), Err(Refusal::at(Reason::InvalidPrefix, 2)));
+    /// assert_eq!(Family::try_from(5), Err(Refusal::from(Reason::BadFamily(5))));
+    /// ```
+    pub const fn at(reason: Reason, place: usize) -> Self {
+        Refusal {
+            reason,
+            place: Some(place),
+        }
+    }
+
+    /// The refusal without its place. This alone leaves the place out: it is what is compared with the original, which has no places.
+    ///
+    /// ```
+    /// use krubbadin::{check, parse_flowspec_nlri, Family, Reason};
+    ///
+    /// let input = [0x02, 0x01, 0x81]; // a length of 129
+    /// let reason = check(Family::Ipv4, &input).unwrap_err().reason();
+    /// assert_eq!(reason, Reason::from(parse_flowspec_nlri(&input).unwrap_err()));
+    /// ```
+    pub const fn reason(&self) -> Reason {
+        self.reason
+    }
+
+    /// The place of the octet that is refused, counted from 0 at the start of the input. An octet that is missing has the place just past
+    /// the end that it is missing before: the input's end in the length's own octets and in the plain reading, the rule's stated end in a
+    /// standard one, or the input's where that comes first. `None` where no octet is refused: 7 to 14.
+    ///
+    /// ```
+    /// use krubbadin::{check, write, Family, FlowSpecComponent, FlowSpecNlri, Reason};
+    ///
+    /// let missing = check(Family::Ipv4, &[0x02, 0x03, 0x81, 0x06]).unwrap_err(); // it states two octets of its three
+    /// assert_eq!((missing.reason(), missing.place()), (Reason::InsufficientData, Some(3)));
+    /// let empty = FlowSpecNlri::new(vec![FlowSpecComponent::IpProtocol(vec![])]);
+    /// assert_eq!(write(Family::Ipv4, &empty).unwrap_err().place(), None);
+    /// ```
+    pub const fn place(&self) -> Option<usize> {
+        self.place
+    }
+
+    /// Its reason's number, as in the C surface's status.
+    ///
+    /// ```
+    /// use krubbadin::{check, Family};
+    /// assert_eq!(check(Family::Ipv4, &[]).unwrap_err().number(), 1);
+    /// ```
+    pub const fn number(&self) -> u8 {
+        self.reason.number()
+    }
+
+    /// The numbers that its reason carries, none, one or two.
+    ///
+    /// ```
+    /// use krubbadin::{check, Family};
+    ///
+    /// let order = check(Family::Ipv4, &[0x06, 0x05, 0x81, 0x50, 0x04, 0x81, 0x19]).unwrap_err();
+    /// assert_eq!(order.carried().collect::<Vec<_>>(), [5, 4]);
+    /// ```
+    pub fn carried(&self) -> impl Iterator<Item = u64> {
+        self.reason.carried()
+    }
+}
+
+impl Display for Refusal {
+    fn fmt(&self, f: &mut Formatter<'_>) -> fmt::Result {
+        match self.place {
+            Some(place) => write!(f, "octet {place}: {}", self.reason),
+            None => self.reason.fmt(f),
+        }
+    }
+}
+
+impl Error for Refusal {}
+
+/// A refusal without a place.
+///
+/// ```
+/// use krubbadin::{Reason, Refusal};
+/// assert_eq!(Refusal::from(Reason::BadRecord).place(), None);
+/// ```
+impl From<Reason> for Refusal {
+    fn from(reason: Reason) -> Self {
+        Refusal {
+            reason,
+            place: None,
+        }
+    }
+}
+
+/// Why something is refused, wherever in the input that is. More may join it.
+///
+/// ```
+/// use krubbadin::{read, Family, Reason};
+///
+/// let reason = read(Family::Ipv4, &[0x04, 0x0D, 0x81, 0x00, 0x0E]).unwrap_err().reason();
+/// assert_eq!(reason, Reason::InvalidComponentType(13));
+/// assert_eq!(reason.number(), 3);
+/// assert_eq!(reason.to_string(), "type 13, the flow label, is not in IPv4 (RFC 8956)");
 /// ```
 #[derive(Debug, Clone, Copy, PartialEq, Eq, Hash)]
 #[non_exhaustive]
-pub enum Refusal {
+pub enum Reason {
     /// 1: octets are missing before the end that bounds them.
     InsufficientData,
     /// 2: a component's type is not above the one before it.
@@ -153,77 +265,77 @@ pub enum Refusal {
     MixedFamily(usize),
 }
 
-impl Refusal {
+impl Reason {
     /// Its number, as in the C surface's status.
     ///
     /// ```
-    /// assert_eq!(krubbadin::Refusal::BadRecord.number(), 10);
+    /// assert_eq!(krubbadin::Reason::BadRecord.number(), 10);
     /// ```
     pub const fn number(&self) -> u8 {
         match self {
-            Refusal::InsufficientData => 1,
-            Refusal::InvalidComponentOrder { .. } => 2,
-            Refusal::InvalidComponentType(_) => 3,
-            Refusal::InvalidPrefix => 4,
-            Refusal::InvalidOperator(_) => 5,
-            Refusal::InvalidValueLength(_) => 6,
-            Refusal::ValueTooLarge(_) => 7,
-            Refusal::InputTooLong(_) => 8,
-            Refusal::NoRoom(_) => 9,
-            Refusal::BadRecord => 10,
-            Refusal::BadFamily(_) => 11,
-            Refusal::TooManyRules(_) => 12,
-            Refusal::BadPacket => 13,
-            Refusal::MixedFamily(_) => 14,
+            Reason::InsufficientData => 1,
+            Reason::InvalidComponentOrder { .. } => 2,
+            Reason::InvalidComponentType(_) => 3,
+            Reason::InvalidPrefix => 4,
+            Reason::InvalidOperator(_) => 5,
+            Reason::InvalidValueLength(_) => 6,
+            Reason::ValueTooLarge(_) => 7,
+            Reason::InputTooLong(_) => 8,
+            Reason::NoRoom(_) => 9,
+            Reason::BadRecord => 10,
+            Reason::BadFamily(_) => 11,
+            Reason::TooManyRules(_) => 12,
+            Reason::BadPacket => 13,
+            Reason::MixedFamily(_) => 14,
         }
     }
 
     /// The numbers that it carries, none, one or two.
     ///
     /// ```
-    /// use krubbadin::Refusal;
+    /// use krubbadin::Reason;
     ///
-    /// assert_eq!(Refusal::NoRoom(3).carried().collect::<Vec<_>>(), [3]);
-    /// assert_eq!(Refusal::BadPacket.carried().count(), 0);
-    /// let order = Refusal::InvalidComponentOrder { expected_greater_than: 5, found: 4 };
+    /// assert_eq!(Reason::NoRoom(3).carried().collect::<Vec<_>>(), [3]);
+    /// assert_eq!(Reason::BadPacket.carried().count(), 0);
+    /// let order = Reason::InvalidComponentOrder { expected_greater_than: 5, found: 4 };
     /// assert_eq!(order.carried().collect::<Vec<_>>(), [5, 4]);
     /// ```
     pub fn carried(&self) -> impl Iterator<Item = u64> {
         let (first, second) = match *self {
-            Refusal::InsufficientData
-            | Refusal::InvalidPrefix
-            | Refusal::BadRecord
-            | Refusal::BadPacket => (None, None),
-            Refusal::InvalidComponentOrder {
+            Reason::InsufficientData
+            | Reason::InvalidPrefix
+            | Reason::BadRecord
+            | Reason::BadPacket => (None, None),
+            Reason::InvalidComponentOrder {
                 expected_greater_than,
                 found,
             } => (
                 Some(u64::from(expected_greater_than)),
                 Some(u64::from(found)),
             ),
-            Refusal::InvalidComponentType(octet)
-            | Refusal::InvalidOperator(octet)
-            | Refusal::InvalidValueLength(octet)
-            | Refusal::BadFamily(octet) => (Some(u64::from(octet)), None),
-            Refusal::ValueTooLarge(count)
-            | Refusal::InputTooLong(count)
-            | Refusal::NoRoom(count)
-            | Refusal::TooManyRules(count)
-            | Refusal::MixedFamily(count) => (Some(count as u64), None),
+            Reason::InvalidComponentType(octet)
+            | Reason::InvalidOperator(octet)
+            | Reason::InvalidValueLength(octet)
+            | Reason::BadFamily(octet) => (Some(u64::from(octet)), None),
+            Reason::ValueTooLarge(count)
+            | Reason::InputTooLong(count)
+            | Reason::NoRoom(count)
+            | Reason::TooManyRules(count)
+            | Reason::MixedFamily(count) => (Some(count as u64), None),
         };
         first.into_iter().chain(second)
     }
 }
 
-impl Display for Refusal {
+impl Display for Reason {
     fn fmt(&self, f: &mut Formatter<'_>) -> fmt::Result {
         match self {
-            Refusal::InsufficientData => write!(f, "octets are missing"),
-            Refusal::InvalidComponentOrder {
+            Reason::InsufficientData => write!(f, "octets are missing"),
+            Reason::InvalidComponentOrder {
                 expected_greater_than: 0,
                 found,
             } => write!(f, "the first component has type {found}, and types are 1 to 13"),
-            Refusal::InvalidComponentOrder {
+            Reason::InvalidComponentOrder {
                 expected_greater_than,
                 found,
             } => write!(
@@ -231,90 +343,117 @@ impl Display for Refusal {
                 "a component of type {found} follows type {expected_greater_than}, and types must rise"
             ),
             // Every other reading has it.
-            Refusal::InvalidComponentType(13) => {
+            Reason::InvalidComponentType(13) => {
                 write!(f, "type 13, the flow label, is not in IPv4 (RFC 8956)")
             }
-            Refusal::InvalidComponentType(found) => {
+            Reason::InvalidComponentType(found) => {
                 write!(f, "no component has type {found}: types are 1 to 13")
             }
-            Refusal::InvalidPrefix => write!(f, "a prefix's length or offset is out of range"),
-            Refusal::InvalidOperator(octet) => {
+            Reason::InvalidPrefix => write!(f, "a prefix's length or offset is out of range"),
+            Reason::InvalidOperator(octet) => {
                 write!(f, "a reserved bit is set in operator octet 0x{octet:02X}")
             }
-            Refusal::InvalidValueLength(code) => write!(f, "no width has code {code}"),
-            Refusal::ValueTooLarge(length) => {
+            Reason::InvalidValueLength(code) => write!(f, "no width has code {code}"),
+            Reason::ValueTooLarge(length) => {
                 write!(f, "the rule's body has {length} octets, and 4095 is the most")
             }
-            Refusal::InputTooLong(length) => {
+            Reason::InputTooLong(length) => {
                 write!(f, "{length} octets were given, and 4097 is the most")
             }
-            Refusal::NoRoom(needed) => write!(f, "there is no room: {needed} places are needed"),
-            Refusal::BadRecord => write!(f, "this is no rule, or none of its family"),
-            Refusal::BadFamily(family) => write!(f, "there is no family {family}; 4 and 6 are"),
-            Refusal::TooManyRules(count) => {
+            Reason::NoRoom(needed) => write!(f, "there is no room: {needed} places are needed"),
+            Reason::BadRecord => write!(f, "this is no rule, or none of its family"),
+            Reason::BadFamily(family) => write!(f, "there is no family {family}; 4 and 6 are"),
+            Reason::TooManyRules(count) => {
                 write!(f, "{count} rules were given, and 64 is the most")
             }
-            Refusal::BadPacket => write!(f, "a field of the packet is out of range"),
-            Refusal::MixedFamily(place) => {
+            Reason::BadPacket => write!(f, "a field of the packet is out of range"),
+            Reason::MixedFamily(place) => {
                 write!(f, "the rule at place {place} is of another family")
             }
         }
     }
 }
 
-impl Error for Refusal {}
+impl Error for Reason {}
 
-/// Each of the original's errors is a refusal.
+/// Each of the original's errors is a reason.
 ///
 /// ```
-/// use krubbadin::{FlowSpecError, Refusal};
-/// assert_eq!(Refusal::from(FlowSpecError::InvalidPrefix), Refusal::InvalidPrefix);
+/// use krubbadin::{FlowSpecError, Reason};
+/// assert_eq!(Reason::from(FlowSpecError::InvalidPrefix), Reason::InvalidPrefix);
 /// ```
-impl From<FlowSpecError> for Refusal {
+impl From<FlowSpecError> for Reason {
     fn from(error: FlowSpecError) -> Self {
         match error {
-            FlowSpecError::InsufficientData => Refusal::InsufficientData,
+            FlowSpecError::InsufficientData => Reason::InsufficientData,
             FlowSpecError::InvalidComponentOrder {
                 expected_greater_than,
                 found,
-            } => Refusal::InvalidComponentOrder {
+            } => Reason::InvalidComponentOrder {
                 expected_greater_than,
                 found,
             },
-            FlowSpecError::InvalidComponentType(found) => Refusal::InvalidComponentType(found),
-            FlowSpecError::InvalidPrefix => Refusal::InvalidPrefix,
-            FlowSpecError::InvalidOperator(octet) => Refusal::InvalidOperator(octet),
-            FlowSpecError::InvalidValueLength(code) => Refusal::InvalidValueLength(code),
+            FlowSpecError::InvalidComponentType(found) => Reason::InvalidComponentType(found),
+            FlowSpecError::InvalidPrefix => Reason::InvalidPrefix,
+            FlowSpecError::InvalidOperator(octet) => Reason::InvalidOperator(octet),
+            FlowSpecError::InvalidValueLength(code) => Reason::InvalidValueLength(code),
         }
     }
 }
 
-/// The refusals 1 to 6 are errors of the original; any other comes back.
+/// Each of them is a refusal, and has no place.
 ///
 /// ```
-/// use krubbadin::{FlowSpecError, Refusal};
-/// assert_eq!(FlowSpecError::try_from(Refusal::InvalidPrefix), Ok(FlowSpecError::InvalidPrefix));
-/// assert_eq!(FlowSpecError::try_from(Refusal::BadRecord), Err(Refusal::BadRecord));
+/// use krubbadin::{FlowSpecError, Reason, Refusal};
+/// assert_eq!(Refusal::from(FlowSpecError::InvalidPrefix), Refusal::from(Reason::InvalidPrefix));
 /// ```
-impl TryFrom<Refusal> for FlowSpecError {
-    type Error = Refusal;
+impl From<FlowSpecError> for Refusal {
+    fn from(error: FlowSpecError) -> Self {
+        Reason::from(error).into()
+    }
+}
 
-    fn try_from(refusal: Refusal) -> Result<Self, Refusal> {
-        Ok(match refusal {
-            Refusal::InsufficientData => FlowSpecError::InsufficientData,
-            Refusal::InvalidComponentOrder {
+/// The reasons 1 to 6 are errors of the original; any other comes back.
+///
+/// ```
+/// use krubbadin::{FlowSpecError, Reason};
+/// assert_eq!(FlowSpecError::try_from(Reason::InvalidPrefix), Ok(FlowSpecError::InvalidPrefix));
+/// assert_eq!(FlowSpecError::try_from(Reason::BadRecord), Err(Reason::BadRecord));
+/// ```
+impl TryFrom<Reason> for FlowSpecError {
+    type Error = Reason;
+
+    fn try_from(reason: Reason) -> Result<Self, Reason> {
+        Ok(match reason {
+            Reason::InsufficientData => FlowSpecError::InsufficientData,
+            Reason::InvalidComponentOrder {
                 expected_greater_than,
                 found,
             } => FlowSpecError::InvalidComponentOrder {
                 expected_greater_than,
                 found,
             },
-            Refusal::InvalidComponentType(found) => FlowSpecError::InvalidComponentType(found),
-            Refusal::InvalidPrefix => FlowSpecError::InvalidPrefix,
-            Refusal::InvalidOperator(octet) => FlowSpecError::InvalidOperator(octet),
-            Refusal::InvalidValueLength(code) => FlowSpecError::InvalidValueLength(code),
+            Reason::InvalidComponentType(found) => FlowSpecError::InvalidComponentType(found),
+            Reason::InvalidPrefix => FlowSpecError::InvalidPrefix,
+            Reason::InvalidOperator(octet) => FlowSpecError::InvalidOperator(octet),
+            Reason::InvalidValueLength(code) => FlowSpecError::InvalidValueLength(code),
             other => return Err(other),
         })
+    }
+}
+
+/// The same of a refusal, whose place the original's errors do not have.
+///
+/// ```
+/// use krubbadin::{FlowSpecError, Reason, Refusal};
+/// assert_eq!(FlowSpecError::try_from(Refusal::at(Reason::InvalidPrefix, 2)), Ok(FlowSpecError::InvalidPrefix));
+/// assert_eq!(FlowSpecError::try_from(Refusal::from(Reason::BadRecord)), Err(Refusal::from(Reason::BadRecord)));
+/// ```
+impl TryFrom<Refusal> for FlowSpecError {
+    type Error = Refusal;
+
+    fn try_from(refusal: Refusal) -> Result<Self, Refusal> {
+        FlowSpecError::try_from(refusal.reason()).map_err(|_| refusal)
     }
 }
 
@@ -322,12 +461,15 @@ impl Answer {
     /// The two numbers of an answer, or its refusal.
     ///
     /// ```
-    /// use krubbadin::surface::Answer;
-    /// use krubbadin::Refusal;
+    /// use krubbadin::surface::{Answer, NOWHERE};
+    /// use krubbadin::{Reason, Refusal};
     ///
-    /// assert_eq!(Answer { status: 0, first: 9, second: 3 }.accepted(), Ok((9, 3)));
-    /// let none = Answer { status: 9, first: 3, second: 0 };
-    /// assert_eq!(none.accepted(), Err(Refusal::NoRoom(3)));
+    /// let taken = Answer { status: 0, first: 9, second: 3, place: NOWHERE };
+    /// assert_eq!(taken.accepted(), Ok((9, 3)));
+    /// let no_room = Answer { status: 9, first: 3, second: 0, place: NOWHERE };
+    /// assert_eq!(no_room.accepted(), Err(Refusal::from(Reason::NoRoom(3))));
+    /// let missing = Answer { status: 1, first: 0, second: 0, place: 5 };
+    /// assert_eq!(missing.accepted(), Err(Refusal::at(Reason::InsufficientData, 5)));
     /// ```
     ///
     /// # Panics
@@ -342,26 +484,34 @@ impl Answer {
     }
 
     fn refused(self) -> Refusal {
+        Refusal {
+            reason: self.reason(),
+            // A place fits a usize as a count does.
+            place: Some(self.place as usize).filter(|_| self.place != NOWHERE),
+        }
+    }
+
+    fn reason(self) -> Reason {
         // What a refusal carries as an octet is below 256, and a count fits a usize: that is proved.
         let (octet, count) = (self.first as u8, self.first as usize);
         match self.status {
-            1 => Refusal::InsufficientData,
-            2 => Refusal::InvalidComponentOrder {
+            1 => Reason::InsufficientData,
+            2 => Reason::InvalidComponentOrder {
                 expected_greater_than: octet,
                 found: self.second as u8,
             },
-            3 => Refusal::InvalidComponentType(octet),
-            4 => Refusal::InvalidPrefix,
-            5 => Refusal::InvalidOperator(octet),
-            6 => Refusal::InvalidValueLength(octet),
-            7 => Refusal::ValueTooLarge(count),
-            8 => Refusal::InputTooLong(count),
-            9 => Refusal::NoRoom(count),
-            10 => Refusal::BadRecord,
-            11 => Refusal::BadFamily(octet),
-            12 => Refusal::TooManyRules(count),
-            13 => Refusal::BadPacket,
-            14 => Refusal::MixedFamily(count),
+            3 => Reason::InvalidComponentType(octet),
+            4 => Reason::InvalidPrefix,
+            5 => Reason::InvalidOperator(octet),
+            6 => Reason::InvalidValueLength(octet),
+            7 => Reason::ValueTooLarge(count),
+            8 => Reason::InputTooLong(count),
+            9 => Reason::NoRoom(count),
+            10 => Reason::BadRecord,
+            11 => Reason::BadFamily(octet),
+            12 => Reason::TooManyRules(count),
+            13 => Reason::BadPacket,
+            14 => Reason::MixedFamily(count),
             other => unreachable!("no call answers status {other}"),
         }
     }

@@ -48,16 +48,29 @@
 //! original reads. They accept and refuse what the readings do, with the same refusals, and allocate nothing:
 //!
 //! ```
-//! use krubbadin::{check, Family, Refusal};
+//! use krubbadin::{check, Family, Reason, Refusal};
 //!
 //! assert_eq!(check(Family::Ipv4, &[0x06, 0x03, 0x81, 0x06, 0x05, 0x81, 0x50]), Ok(7));
-//! assert_eq!(check(Family::Ipv4, &[0x02, 0x01, 0x21]), Err(Refusal::InvalidPrefix)); // a length of 33
+//! // a length of 33, at octet 2
+//! assert_eq!(check(Family::Ipv4, &[0x02, 0x01, 0x21]), Err(Refusal::at(Reason::InvalidPrefix, 2)));
 //! ```
 //!
 //! # What is wrong
 //!
-//! Of a rule that is refused as [`BadRecord`](Refusal::BadRecord) [`why`] says the ground, of a packet that is refused as
-//! [`BadPacket`](Refusal::BadPacket) [`Packet::why`] says the field. A rule prints in one line:
+//! A [`Refusal`] says its [reason](Refusal::reason), and where octets are refused the [place](Refusal::place) of the wrong one, counted from
+//! the start of the input:
+//!
+//! ```
+//! use krubbadin::{read, Family, Reason};
+//!
+//! let refusal = read(Family::Ipv4, &[0x05, 0x03, 0x81, 0x06, 0x01, 0x21]).unwrap_err(); // a prefix after the protocol
+//! assert_eq!(refusal.reason(), Reason::InvalidComponentOrder { expected_greater_than: 3, found: 1 });
+//! assert_eq!(refusal.place(), Some(4));
+//! assert_eq!(refusal.to_string(), "octet 4: a component of type 1 follows type 3, and types must rise");
+//! ```
+//!
+//! Of a rule that is refused as [`BadRecord`](Reason::BadRecord) [`why`] says the ground, of a packet that is refused as
+//! [`BadPacket`](Reason::BadPacket) [`Packet::why`] says the field. A rule prints in one line:
 //!
 //! ```
 //! use krubbadin::{parse_flowspec_nlri, why, Family};
@@ -89,7 +102,7 @@ pub mod surface;
 mod text;
 mod why;
 
-pub use error::{EncodingError, FlowSpecError, Refusal};
+pub use error::{EncodingError, FlowSpecError, Reason, Refusal};
 pub use nlri::{check_flowspec_nlri, encode_flowspec_nlri, parse_flowspec_nlri};
 pub use operators::{BitmaskOperator, NumericOperator};
 pub use packet::Packet;

@@ -1,6 +1,6 @@
 //! Reading and writing as the original does it, and checking without reading.
 
-use crate::error::{EncodingError, FlowSpecError, Refusal};
+use crate::error::{EncodingError, FlowSpecError, Reason, Refusal};
 use crate::rules::{FlowSpecComponent, FlowSpecNlri, NetworkPrefix};
 use crate::stored::{check_rule, list_of, read_rule, write_rule, LONGEST};
 use crate::why::why_owned;
@@ -39,14 +39,16 @@ pub fn parse_flowspec_nlri(data: &[u8]) -> Result<FlowSpecNlri, FlowSpecError> {
 ///
 /// # Errors
 ///
-/// As the original's.
+/// As the original's, which have no place. [`surface::check`](crate::surface::check) with `standard` 0 has it.
 ///
 /// ```
-/// use krubbadin::{check_flowspec_nlri, FlowSpecError};
+/// use krubbadin::{check_flowspec_nlri, surface, FlowSpecError, Reason, Refusal};
 ///
 /// assert_eq!(check_flowspec_nlri(&[0x03, 0x03, 0x81, 0x06, 0x00]), Ok(4));
 /// assert_eq!(check_flowspec_nlri(&[0x03, 0x03, 0x89, 0x06]), Err(FlowSpecError::InvalidOperator(0x89)));
 /// assert_eq!(check_flowspec_nlri(&[]), Err(FlowSpecError::InsufficientData));
+/// let placed = surface::check(0, 0, &[0x03, 0x03, 0x89, 0x06]).accepted();
+/// assert_eq!(placed, Err(Refusal::at(Reason::InvalidOperator(0x89), 2)));
 /// ```
 pub fn check_flowspec_nlri(data: &[u8]) -> Result<usize, FlowSpecError> {
     check_rule(0, 0, within(data)).map_err(original)
@@ -84,8 +86,8 @@ pub fn encode_flowspec_nlri(nlri: &FlowSpecNlri) -> Result<Vec<u8>, EncodingErro
         actual,
         max: LONGEST_BODY,
     };
-    write_rule(0, 0, nlri).map_err(|refusal| match (refusal, body_length(nlri)) {
-        (Refusal::ValueTooLarge(actual), _) => too_large(actual),
+    write_rule(0, 0, nlri).map_err(|refusal| match (refusal.reason(), body_length(nlri)) {
+        (Reason::ValueTooLarge(actual), _) => too_large(actual),
         // No record for the archive, and too long all the same.
         (_, actual) if actual > LONGEST_BODY => too_large(actual),
         _ => EncodingError::Unencodable {

@@ -5,7 +5,7 @@ use std::net::IpAddr;
 
 /// The fields of a packet. A field that is `None` is absent, and no component matches an absent field.
 ///
-/// Out of range, and refused as [`BadPacket`](crate::Refusal::BadPacket), are addresses of two families, and numbers above what each
+/// Out of range, and refused as [`BadPacket`](crate::Reason::BadPacket), are addresses of two families, and numbers above what each
 /// field says.
 ///
 /// ```

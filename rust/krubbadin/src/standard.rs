@@ -1,6 +1,6 @@
 //! Checking, reading, writing, matching, ranking and choosing by RFC 8955 and RFC 8956.
 
-use crate::error::Refusal;
+use crate::error::{Reason, Refusal};
 use crate::packet::Packet;
 use crate::rules::FlowSpecNlri;
 use crate::stored::{check_rule, read_rule, with_rule, write_rule, Many};
@@ -10,10 +10,10 @@ use std::cmp::Ordering;
 /// The family of a rule: IPv4 (RFC 8955) or IPv6 (RFC 8956).
 ///
 /// ```
-/// use krubbadin::{Family, Refusal};
+/// use krubbadin::{Family, Reason};
 ///
 /// assert_eq!(Family::try_from(6), Ok(Family::Ipv6));
-/// assert_eq!(Family::try_from(5), Err(Refusal::BadFamily(5)));
+/// assert_eq!(Family::try_from(5).unwrap_err().reason(), Reason::BadFamily(5));
 /// ```
 #[derive(Debug, Clone, Copy, PartialEq, Eq, Hash, PartialOrd, Ord)]
 pub enum Family {
@@ -44,7 +44,7 @@ impl TryFrom<u8> for Family {
         match number {
             4 => Ok(Family::Ipv4),
             6 => Ok(Family::Ipv6),
-            _ => Err(Refusal::BadFamily(number)),
+            _ => Err(Reason::BadFamily(number).into()),
         }
     }
 }
@@ -56,15 +56,18 @@ impl TryFrom<u8> for Family {
 ///
 /// # Errors
 ///
-/// The refusals 1 to 4.
+/// The refusals 1 to 4, each with its [place](Refusal::place).
 ///
 /// ```
-/// use krubbadin::{read, Family, FlowSpecComponent};
+/// use krubbadin::{read, Family, FlowSpecComponent, Reason};
 ///
 /// let input = [0x03, 0x01, 0x04, 0xFF, 0x00]; // a rule, and the next one's length
 /// let (rule, used) = read(Family::Ipv4, &input).unwrap();
 /// assert_eq!(rule.components, [FlowSpecComponent::DestinationPrefix("240.0.0.0/4".parse().unwrap())]);
 /// assert_eq!(used, 4);
+/// let refusal = read(Family::Ipv4, &[0x05, 0x03, 0x81, 0x06, 0x03, 0x81]).unwrap_err(); // the protocol twice
+/// assert_eq!(refusal.reason(), Reason::InvalidComponentOrder { expected_greater_than: 3, found: 3 });
+/// assert_eq!(refusal.place(), Some(4));
 /// ```
 pub fn read(family: Family, input: &[u8]) -> Result<(FlowSpecNlri, usize), Refusal> {
     read_rule(1, family.number(), input)
@@ -77,16 +80,16 @@ pub fn read(family: Family, input: &[u8]) -> Result<(FlowSpecNlri, usize), Refus
 ///
 /// # Errors
 ///
-/// The refusals 1 to 4.
+/// The refusals 1 to 4, each with its [place](Refusal::place).
 ///
 /// ```
-/// use krubbadin::{check, Family, Refusal};
+/// use krubbadin::{check, Family, Reason, Refusal};
 ///
 /// // to 192.0.2.0/24, TCP, port 25, and the next one's length
 /// let input = [0x0B, 0x01, 0x18, 0xC0, 0x00, 0x02, 0x03, 0x81, 0x06, 0x04, 0x81, 0x19, 0x00];
 /// assert_eq!(check(Family::Ipv4, &input), Ok(12));
-/// assert_eq!(check(Family::Ipv6, &input), Err(Refusal::InvalidPrefix)); // offset 192 is past length 24
-/// assert_eq!(check(Family::Ipv4, &input[..11]), Err(Refusal::InsufficientData));
+/// assert_eq!(check(Family::Ipv6, &input), Err(Refusal::at(Reason::InvalidPrefix, 2))); // offset 192 is past length 24
+/// assert_eq!(check(Family::Ipv4, &input[..11]), Err(Refusal::at(Reason::InsufficientData, 11)));
 /// ```
 pub fn check(family: Family, input: &[u8]) -> Result<usize, Refusal> {
     check_rule(1, family.number(), input)
@@ -101,13 +104,13 @@ pub fn check(family: Family, input: &[u8]) -> Result<usize, Refusal> {
 /// says which. `ValueTooLarge` for a body of more than 4,095 octets.
 ///
 /// ```
-/// use krubbadin::{read, write, Family, Refusal};
+/// use krubbadin::{read, write, Family, Reason};
 ///
 /// // RFC 8956, 3.8.2: to 2001:db8::/32, from ::1234:5678:9a00:0, bits 65 to 103
 /// let input = [0x0F, 0x01, 0x20, 0x00, 0x20, 0x01, 0x0D, 0xB8, 0x02, 0x68, 0x41, 0x24, 0x68, 0xAC, 0xF1, 0x34];
 /// let (rule, _) = read(Family::Ipv6, &input).unwrap();
 /// assert_eq!(write(Family::Ipv6, &rule).unwrap(), input);
-/// assert_eq!(write(Family::Ipv4, &rule), Err(Refusal::BadRecord));
+/// assert_eq!(write(Family::Ipv4, &rule).unwrap_err().reason(), Reason::BadRecord);
 /// ```
 pub fn write(family: Family, rule: &FlowSpecNlri) -> Result<Vec<u8>, Refusal> {
     write_rule(1, family.number(), rule)
@@ -244,12 +247,13 @@ impl Table {
     /// `TooManyRules` at the sixty-fifth; what [`write()`] refuses with. A rule that is refused is not added.
     ///
     /// ```
-    /// use krubbadin::{Family, FlowSpecComponent, FlowSpecNlri, Refusal, Table};
+    /// use krubbadin::{Family, FlowSpecComponent, FlowSpecNlri, Reason, Table};
     ///
     /// let mut table = Table::new();
     /// let rule = |prefix: &str| FlowSpecNlri::new(vec![FlowSpecComponent::DestinationPrefix(prefix.parse().unwrap())]);
     /// assert_eq!(table.push(Family::Ipv4, &rule("10.0.0.0/8")), Ok(()));
-    /// assert_eq!(table.push(Family::Ipv4, &rule("10.0.0.1/8")), Err(Refusal::BadRecord)); // bits past the length
+    /// let refusal = table.push(Family::Ipv4, &rule("10.0.0.1/8")).unwrap_err(); // bits past the length
+    /// assert_eq!(refusal.reason(), Reason::BadRecord);
     /// assert_eq!(table.len(), 1);
     /// ```
     pub fn push(&mut self, family: Family, rule: &FlowSpecNlri) -> Result<(), Refusal> {
@@ -265,11 +269,12 @@ impl Table {
     /// `TooManyRules` at the sixty-fifth; what [`read`] refuses with. A rule that is refused is not added.
     ///
     /// ```
-    /// use krubbadin::{Family, Refusal, Table};
+    /// use krubbadin::{Family, Reason, Refusal, Table};
     ///
     /// let mut table = Table::new();
     /// assert_eq!(table.read(Family::Ipv4, &[0x03, 0x01, 0x08, 0x0A]), Ok(4));
-    /// assert_eq!(table.read(Family::Ipv4, &[0x02, 0x01, 0x21]), Err(Refusal::InvalidPrefix));
+    /// let refusal = Refusal::at(Reason::InvalidPrefix, 2);
+    /// assert_eq!(table.read(Family::Ipv4, &[0x02, 0x01, 0x21]), Err(refusal));
     /// ```
     pub fn read(&mut self, family: Family, input: &[u8]) -> Result<usize, Refusal> {
         self.has_place()?;
@@ -324,7 +329,7 @@ impl Table {
 
     fn has_place(&self) -> Result<(), Refusal> {
         match self.len() + 1 {
-            count if count > Table::MOST => Err(Refusal::TooManyRules(count)),
+            count if count > Table::MOST => Err(Reason::TooManyRules(count).into()),
             _ => Ok(()),
         }
     }

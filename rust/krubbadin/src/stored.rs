@@ -3,7 +3,7 @@
 //! Between them and owned rules operators are taken apart and put together here, in Rust, since a call for each would cost more than the
 //! reading; a test holds every octet to the archive's own calls.
 
-use crate::error::Refusal;
+use crate::error::{Reason, Refusal};
 use crate::operators::{BitmaskOperator, NumericOperator};
 use crate::rules::{FlowSpecComponent, FlowSpecNlri, NetworkPrefix};
 use crate::surface::{self, COUNT, FAMILY, FIRST, OPERATORS, WORDS};
@@ -287,7 +287,7 @@ fn put_rule(
         let list = list_of(component);
         let places = start..start + list.len();
         if !list.fill(&mut values[places.clone()], &mut octets[places]) {
-            return Err(Refusal::BadRecord);
+            return Err(Reason::BadRecord.into());
         }
         if at < COMPONENTS {
             let group = component_words(component, start as u64, list.len() as u64);

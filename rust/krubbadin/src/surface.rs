@@ -93,17 +93,27 @@ pub const OPERATORS: usize = 2047;
 /// assert_eq!(krubbadin::Packet::new([10, 1, 2, 3], [192, 0, 2, 1]).words().len(), krubbadin::surface::PACKET);
 /// ```
 pub const PACKET: usize = 20;
+/// The place of an answer that has none: all ones.
+///
+/// ```
+/// use krubbadin::surface::{check, NOWHERE};
+///
+/// assert_eq!(check(1, 4, &[0x03, 0x03, 0x81, 0x06]).place, NOWHERE); // accepted
+/// assert_eq!(check(1, 5, &[0x03, 0x03, 0x81, 0x06]).place, NOWHERE); // no octet is to blame for the family
+/// assert_eq!(check(1, 4, &[0x03, 0x03, 0x81]).place, 3);
+/// ```
+pub const NOWHERE: u64 = u64::MAX;
 
-/// What a call answers: status 0 with two numbers, or a refusal's number and what that carries.
+/// What a call answers: status 0 with two numbers, or a refusal's number, what that carries, and the place of the octet that is refused.
 ///
 /// ```
 /// use krubbadin::surface::read;
-/// use krubbadin::Refusal;
+/// use krubbadin::{Reason, Refusal};
 ///
 /// let (mut words, mut values, mut octets) = ([0; 64], [0; 8], [0; 8]);
 /// let answer = read(0, 0, &[0x03, 0x03, 0x89, 0x06], &mut words, &mut values, &mut octets);
-/// assert_eq!((answer.status, answer.first, answer.second), (5, 0x89, 0));
-/// assert_eq!(answer.accepted(), Err(Refusal::InvalidOperator(0x89)));
+/// assert_eq!((answer.status, answer.first, answer.second, answer.place), (5, 0x89, 0, 2));
+/// assert_eq!(answer.accepted(), Err(Refusal::at(Reason::InvalidOperator(0x89), 2)));
 /// ```
 #[repr(C)]
 #[derive(Debug, Clone, Copy, PartialEq, Eq)]
@@ -114,6 +124,9 @@ pub struct Answer {
     pub first: u64,
     /// The second number of the answer, or the second that the refusal carries, or 0.
     pub second: u64,
+    /// The place of the octet that is refused, counted from the start of the input, as [`Refusal::place`] has it, or [`NOWHERE`]: only the
+    /// refusals 1 to 6 of a reading have one.
+    pub place: u64,
 }
 
 /// An operator, as [`operator_read`] and [`operator_make`] give it.
@@ -229,7 +242,7 @@ mod exported {
 /// family; else the standard one in the family, 4 or 6.
 ///
 /// Accepted: the octets used, and how many operators there are. Places past the last one filled stay. Refusals: 8 (plain) or 11 (standard),
-/// then 1 to 5 as the walk meets them, then 9 with the places needed. A refusal changes nothing.
+/// then 1 to 5 as the walk meets them, each with its place, then 9 with the places needed. A refusal changes nothing.
 ///
 /// ```
 /// use krubbadin::surface::{read, COUNT};
@@ -318,7 +331,7 @@ pub(crate) fn read_anew<'a>(
 /// looks at no family; else by the standard one in the family, 4 or 6.
 ///
 /// Accepted: the octets used, and how many operators there are, which is how many places [`read`] needs in each list. Refusals: 8 (plain)
-/// or 11 (standard), then 1 to 5 as the walk meets them; never 9.
+/// or 11 (standard), then 1 to 5 as the walk meets them, each with its place; never 9.
 ///
 /// ```
 /// use krubbadin::surface::check;
@@ -326,7 +339,8 @@ pub(crate) fn read_anew<'a>(
 /// let input = [0x08, 0x05, 0x03, 0x50, 0x45, 0x5A, 0x91, 0x01, 0xBB];
 /// let answer = check(1, 4, &input);
 /// assert_eq!((answer.status, answer.first, answer.second), (0, 9, 3));
-/// assert_eq!(check(1, 4, &input[..8]).status, 1);
+/// let answer = check(1, 4, &input[..8]);
+/// assert_eq!((answer.status, answer.place), (1, 8));
 /// let answer = check(1, 5, &input);
 /// assert_eq!((answer.status, answer.first), (11, 5));
 /// ```

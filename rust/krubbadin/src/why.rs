@@ -8,7 +8,7 @@ use crate::stored::{list_of, with_rule, COMPONENTS};
 use crate::surface::{self, COUNT, FAMILY, FIRST, OPERATORS, PACKET, WORDS};
 use std::fmt::{self, Display, Formatter};
 
-/// Why a rule is refused as [`BadRecord`](crate::Refusal::BadRecord): the first ground that is met, component by component. Places are
+/// Why a rule is refused as [`BadRecord`](crate::Reason::BadRecord): the first ground that is met, component by component. Places are
 /// counted from 0. `Display` says it in words. More may join it.
 ///
 /// ```
@@ -33,7 +33,7 @@ pub enum Ground {
     /// It has this many operators, and 2,047 is the most.
     Operators(u64),
     /// Its body has this many octets, and 4,095 is the most. [`write()`](crate::write()) tells it as
-    /// [`ValueTooLarge`](crate::Refusal::ValueTooLarge), the other calls as `BadRecord`.
+    /// [`ValueTooLarge`](crate::Reason::ValueTooLarge), the other calls as `BadRecord`.
     Octets(usize),
     /// A type does not follow the one before it.
     Order {
@@ -227,10 +227,10 @@ impl Display for Ground {
 /// [`rank`](crate::rank) and [`Table::push`](crate::Table::push) refuse it.
 ///
 /// ```
-/// use krubbadin::{why, write, Family, FlowSpecComponent, FlowSpecNlri, Refusal};
+/// use krubbadin::{why, write, Family, FlowSpecComponent, FlowSpecNlri, Reason};
 ///
 /// let rule = FlowSpecNlri::new(vec![FlowSpecComponent::DestinationPrefix("10.0.0.1/8".parse().unwrap())]);
-/// assert_eq!(write(Family::Ipv4, &rule), Err(Refusal::BadRecord));
+/// assert_eq!(write(Family::Ipv4, &rule).unwrap_err().reason(), Reason::BadRecord);
 /// let ground = why(Family::Ipv4, &rule).unwrap();
 /// assert_eq!(ground.to_string(), "component 0 is a prefix with address bits outside its range");
 /// let good = FlowSpecNlri::new(vec![FlowSpecComponent::DestinationPrefix("10.0.0.0/8".parse().unwrap())]);
@@ -454,7 +454,7 @@ fn empty(words: &[u64; WORDS]) -> [u64; WORDS] {
     rule
 }
 
-/// The field that makes a packet a [`BadPacket`](crate::Refusal::BadPacket). `Display` says it in words. More may join it.
+/// The field that makes a packet a [`BadPacket`](crate::Reason::BadPacket). `Display` says it in words. More may join it.
 ///
 /// ```
 /// use krubbadin::{Field, Packet};
@@ -528,12 +528,12 @@ impl Packet {
     /// The field that is out of range, where one is: why [`matches()`](crate::matches()) and [`choose`](crate::choose) refuse the packet.
     ///
     /// ```
-    /// use krubbadin::{choose, Packet, Refusal, Table};
+    /// use krubbadin::{choose, Packet, Reason, Table};
     ///
     /// let mut packet = Packet::new([10, 1, 2, 3], [192, 0, 2, 1]);
     /// assert_eq!(packet.why(), None);
     /// packet.flow_label = Some(5);
-    /// assert_eq!(choose(&Table::new(), &packet), Err(Refusal::BadPacket));
+    /// assert_eq!(choose(&Table::new(), &packet).unwrap_err().reason(), Reason::BadPacket);
     /// let field = packet.why().unwrap();
     /// assert_eq!(field.to_string(), "it has a flow label, which is not in IPv4 (RFC 8956)");
     /// ```

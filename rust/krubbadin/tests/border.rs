@@ -3,10 +3,10 @@
 //!
 //! Each call is made twice, with its slices at the front of their pages and at the end of them. A read or a write beyond a slice ends the
 //! program. Afterwards every place must be as it was before, but those that the answer says were filled, and both calls must have
-//! answered the same.
+//! answered the same; a check must answer so without guard pages too. Only the refusals 1 to 6 have a place, and it is within the input.
 
 use inputs::{Form, Random, LONGEST_INPUT};
-use krubbadin::surface::{self, Answer, COUNT, FAMILY, FIRST, OPERATORS, PACKET, WORDS};
+use krubbadin::surface::{self, Answer, COUNT, FAMILY, FIRST, NOWHERE, OPERATORS, PACKET, WORDS};
 
 /// Turns; each makes two calls of each function that takes slices.
 const TURNS: usize = 40_000;
@@ -244,6 +244,7 @@ impl Border {
                 0 => (WORDS, answer.second as usize),
                 _ => (0, 0),
             };
+            placed_within(answer, input.len());
             self.input.unchanged("read, input");
             let words = self.words.filled(words, "read, words");
             let values = self.values.filled(operators, "read, values");
@@ -257,9 +258,12 @@ impl Border {
         let mut input = Vec::new();
         inputs::random(form(standard, family), random, &mut input);
         input.truncate(2 * LONGEST_INPUT);
+        let unguarded = surface::check(standard, family, &input);
         twice(|side| {
             self.input.put(&input, side);
             let answer = surface::check(standard, family, self.input.list());
+            assert_eq!(answer, unguarded);
+            placed_within(answer, input.len());
             self.input.unchanged("check, input");
             (answer, ())
         })
@@ -359,6 +363,15 @@ fn twice<T: PartialEq + std::fmt::Debug>(mut call: impl FnMut(Side) -> (Answer, 
     let said = call(Side::Before);
     assert_eq!(said, call(Side::Behind));
     Calls::of(2, said.0.status)
+}
+
+/// The place is one of so many octets or their end where a reading refuses an octet, and else there is none.
+fn placed_within(answer: Answer, octets: usize) {
+    let within = match answer.status {
+        1..=6 => answer.place <= octets as u64,
+        _ => answer.place == NOWHERE,
+    };
+    assert!(within, "{answer:?} of {octets} octets");
 }
 
 fn reading(random: &mut Random) -> (u8, u8) {
@@ -526,6 +539,7 @@ fn operators(random: &mut Random) -> Calls {
                 status: 0,
                 first: u64::from(octet),
                 second: 0,
+                place: NOWHERE,
             };
             assert_eq!((back, read.value), (octet, value));
         }

@@ -1,4 +1,5 @@
-//! A check accepts and refuses what a reading does, with the same refusals and the same octets used, and allocates nothing.
+//! A check accepts and refuses what a reading does, with the same refusals, places among them, and the same octets used, and allocates
+//! nothing.
 
 // Of thread_local's own making, in Debian 12's compiler.
 #![allow(clippy::declare_interior_mutable_const)]
@@ -44,8 +45,10 @@ fn same(form: Form, standard: u8, family: u8, input: &[u8]) -> bool {
         // What is too long for the surface is cut before it comes there.
         if read.status != 8 {
             assert_eq!(
-                checked.map_err(Refusal::from),
-                read.accepted().map(|(used, _)| used)
+                checked.map_err(Reason::from),
+                read.accepted()
+                    .map(|(used, _)| used)
+                    .map_err(|refusal| refusal.reason())
             );
         }
     } else {
@@ -112,7 +115,7 @@ fn random_inputs_are_checked_as_they_are_read() {
         assert_eq!(plain, surface::check(0, 4, &input));
         if ![4, 6].contains(&family) {
             let answer = surface::check(1, family, &input);
-            assert_eq!(answer.accepted(), Err(Refusal::BadFamily(family)));
+            assert_eq!(answer.accepted(), Err(Reason::BadFamily(family).into()));
         }
     }
 }
@@ -130,7 +133,7 @@ fn what_follows_the_longest_nlri_changes_nothing() {
             parse_flowspec_nlri(&input).err()
         );
         let answer = surface::check(0, 0, &input);
-        assert_eq!(answer.accepted(), Err(Refusal::InputTooLong(5000)));
+        assert_eq!(answer.accepted(), Err(Reason::InputTooLong(5000).into()));
     }
 }
 

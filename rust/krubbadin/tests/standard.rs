@@ -45,6 +45,7 @@ fn a_rule_that_is_read_is_written_as_the_surface_writes_its_words() {
                 assert_eq!(answer.status, u64::from(refusal.number()));
                 let carried: Vec<u64> = refusal.carried().collect();
                 assert_eq!(carried, [answer.first, answer.second][..carried.len()]);
+                assert_eq!(refusal.place(), Some(answer.place as usize));
             }
         }
     });
@@ -95,7 +96,7 @@ fn tcp_flags_of_every_two_octets() {
     let (rule, _) = &masks[0];
     assert_eq!(
         matches(Family::Ipv4, rule, &packet),
-        Err(Refusal::BadPacket)
+        Err(Reason::BadPacket.into())
     );
     assert_eq!(packet.why(), Some(Field::TcpFlags));
 }
@@ -137,8 +138,14 @@ fn owned_rules_match_rank_and_choose_as_tables_of_words_do() {
         assert_eq!(given, wanted.collect::<Vec<_>>());
         assert_eq!(owned, words);
         let first = rules.first().unwrap();
-        assert_eq!(owned.push(family, &first.0), Err(Refusal::TooManyRules(65)));
-        assert_eq!(words.read(family, &first.1), Err(Refusal::TooManyRules(65)));
+        assert_eq!(
+            owned.push(family, &first.0),
+            Err(Reason::TooManyRules(65).into())
+        );
+        assert_eq!(
+            words.read(family, &first.1),
+            Err(Reason::TooManyRules(65).into())
+        );
 
         let chosen = choose(&owned, &packet).unwrap();
         let mut matching = Vec::new();
@@ -186,22 +193,31 @@ fn each_refusal_is_met_where_it_belongs() {
     ];
     let mut long = [long, vec![NumericOperator::equal_to(1 << 40)]].concat();
 
-    assert_eq!(Family::try_from(0), Err(Refusal::BadFamily(0)));
-    assert_eq!(write(Family::Ipv6, &rule), Err(Refusal::BadRecord));
-    assert_eq!(write(Family::Ipv4, &odd), Err(Refusal::BadRecord));
+    assert_eq!(Family::try_from(0), Err(Reason::BadFamily(0).into()));
+    assert_eq!(write(Family::Ipv6, &rule), Err(Reason::BadRecord.into()));
+    assert_eq!(write(Family::Ipv4, &odd), Err(Reason::BadRecord.into()));
     assert_eq!(
         matches(Family::Ipv4, &rule, &six),
-        Err(Refusal::MixedFamily(0))
+        Err(Reason::MixedFamily(0).into())
     );
-    assert_eq!(matches(Family::Ipv4, &odd, &four), Err(Refusal::BadRecord));
-    assert_eq!(rank(Family::Ipv4, &odd, &rule), Err(Refusal::BadRecord));
+    assert_eq!(
+        matches(Family::Ipv4, &odd, &four),
+        Err(Reason::BadRecord.into())
+    );
+    assert_eq!(
+        rank(Family::Ipv4, &odd, &rule),
+        Err(Reason::BadRecord.into())
+    );
     let mixed = Packet::new([10, 1, 2, 3], [0; 16]);
     assert_eq!(
         matches(Family::Ipv4, &rule, &mixed),
-        Err(Refusal::BadPacket)
+        Err(Reason::BadPacket.into())
     );
     // The packet is looked at before the rule.
-    assert_eq!(matches(Family::Ipv4, &odd, &mixed), Err(Refusal::BadPacket));
+    assert_eq!(
+        matches(Family::Ipv4, &odd, &mixed),
+        Err(Reason::BadPacket.into())
+    );
     for bad in [
         Packet {
             length: 65_576,
@@ -227,7 +243,7 @@ fn each_refusal_is_met_where_it_belongs() {
     ] {
         assert_eq!(
             choose(&Table::new(), &bad),
-            Err(Refusal::BadPacket),
+            Err(Reason::BadPacket.into()),
             "{bad:?}"
         );
     }
@@ -237,7 +253,7 @@ fn each_refusal_is_met_where_it_belongs() {
             Family::Ipv4,
             &FlowSpecNlri::new(vec![FlowSpecComponent::Port(long.clone())])
         ),
-        Err(Refusal::ValueTooLarge(4105))
+        Err(Reason::ValueTooLarge(4105).into())
     );
     long.remove(0);
     long.remove(0);
@@ -251,7 +267,7 @@ fn each_refusal_is_met_where_it_belongs() {
         4089
     );
     let many = FlowSpecNlri::new(vec![ten; 14]);
-    assert_eq!(write(Family::Ipv4, &many), Err(Refusal::BadRecord));
+    assert_eq!(write(Family::Ipv4, &many), Err(Reason::BadRecord.into()));
     let error = encode_flowspec_nlri(&many).unwrap_err();
     assert!(error.to_string().contains("14 components"), "{error}");
     let error = encode_flowspec_nlri(&odd).unwrap_err();
@@ -263,7 +279,7 @@ fn each_refusal_is_met_where_it_belongs() {
         2048
     ])]);
     // No record, and over the longest body, which is what the original says.
-    assert_eq!(write(Family::Ipv4, &many), Err(Refusal::BadRecord));
+    assert_eq!(write(Family::Ipv4, &many), Err(Reason::BadRecord.into()));
     assert_eq!(why(Family::Ipv4, &many), Some(Ground::Operators(2048)));
     let error = encode_flowspec_nlri(&many).unwrap_err();
     assert!(
@@ -273,12 +289,18 @@ fn each_refusal_is_met_where_it_belongs() {
 
     let mut table = Table::new();
     table.push(Family::Ipv4, &rule).unwrap();
-    assert_eq!(table.push(Family::Ipv4, &odd), Err(Refusal::BadRecord));
-    assert_eq!(table.push(Family::Ipv6, &rule), Err(Refusal::BadRecord));
+    assert_eq!(
+        table.push(Family::Ipv4, &odd),
+        Err(Reason::BadRecord.into())
+    );
+    assert_eq!(
+        table.push(Family::Ipv6, &rule),
+        Err(Reason::BadRecord.into())
+    );
     assert_eq!(table.len(), 1);
     table.read(Family::Ipv6, &[0x03, 0x03, 0x81, 0x06]).unwrap();
-    assert_eq!(choose(&table, &four), Err(Refusal::MixedFamily(1)));
-    assert_eq!(choose(&table, &six), Err(Refusal::MixedFamily(0)));
+    assert_eq!(choose(&table, &four), Err(Reason::MixedFamily(1).into()));
+    assert_eq!(choose(&table, &six), Err(Reason::MixedFamily(0).into()));
     table.clear();
     assert_eq!(choose(&table, &six), Ok(None));
 }
@@ -286,22 +308,22 @@ fn each_refusal_is_met_where_it_belongs() {
 #[test]
 fn errors_of_a_first_type_and_of_a_family_say_so() {
     let text = |family, input: &[u8]| read(family, input).unwrap_err().to_string();
-    let first = "the first component has type 0, and types are 1 to 13";
+    let first = "octet 1: the first component has type 0, and types are 1 to 13";
     assert_eq!(text(Family::Ipv4, &[0x01, 0x00]), first);
     assert_eq!(text(Family::Ipv6, &[0x01, 0x00]), first);
     assert_eq!(
         text(Family::Ipv6, &[0x04, 0x03, 0x81, 0x06, 0x00]),
-        "a component of type 0 follows type 3, and types must rise"
+        "octet 4: a component of type 0 follows type 3, and types must rise"
     );
     assert_eq!(
         text(Family::Ipv4, &[0x01, 0x0D]),
-        "type 13, the flow label, is not in IPv4 (RFC 8956)"
+        "octet 1: type 13, the flow label, is not in IPv4 (RFC 8956)"
     );
     for family in FAMILIES {
-        let other = "no component has type 14: types are 1 to 13";
+        let other = "octet 1: no component has type 14: types are 1 to 13";
         assert_eq!(text(family, &[0x01, 0x0E]), other);
     }
-    // The original's error has the original's text.
+    // The original's error has the original's text, and no place.
     let error = parse_flowspec_nlri(&[0x01, 0x0E]).unwrap_err();
     assert_eq!(error.to_string(), "Invalid component type: 14");
 }
@@ -365,37 +387,54 @@ fn a_rule_prints_in_one_line() {
 #[test]
 fn an_error_says_what_it_carries() {
     let all = [
-        (Refusal::InsufficientData, vec![]),
+        (Reason::InsufficientData, vec![]),
         (
-            Refusal::InvalidComponentOrder {
+            Reason::InvalidComponentOrder {
                 expected_greater_than: 101,
                 found: 102,
             },
             vec!["101", "102"],
         ),
-        (Refusal::InvalidComponentType(103), vec!["103"]),
-        (Refusal::InvalidPrefix, vec![]),
-        (Refusal::InvalidOperator(0xAB), vec!["0xAB"]),
-        (Refusal::InvalidValueLength(104), vec!["104"]),
-        (Refusal::ValueTooLarge(5105), vec!["5105", "4095"]),
-        (Refusal::InputTooLong(5106), vec!["5106", "4097"]),
-        (Refusal::NoRoom(107), vec!["107"]),
-        (Refusal::BadRecord, vec![]),
-        (Refusal::BadFamily(108), vec!["108"]),
-        (Refusal::TooManyRules(109), vec!["109", "64"]),
-        (Refusal::BadPacket, vec![]),
-        (Refusal::MixedFamily(110), vec!["110"]),
+        (Reason::InvalidComponentType(103), vec!["103"]),
+        (Reason::InvalidPrefix, vec![]),
+        (Reason::InvalidOperator(0xAB), vec!["0xAB"]),
+        (Reason::InvalidValueLength(104), vec!["104"]),
+        (Reason::ValueTooLarge(5105), vec!["5105", "4095"]),
+        (Reason::InputTooLong(5106), vec!["5106", "4097"]),
+        (Reason::NoRoom(107), vec!["107"]),
+        (Reason::BadRecord, vec![]),
+        (Reason::BadFamily(108), vec!["108"]),
+        (Reason::TooManyRules(109), vec!["109", "64"]),
+        (Reason::BadPacket, vec![]),
+        (Reason::MixedFamily(110), vec!["110"]),
     ];
-    for (place, (refusal, words)) in all.into_iter().enumerate() {
-        assert_eq!(usize::from(refusal.number()), place + 1);
-        let error: Box<dyn Error> = Box::new(refusal);
+    for (number, (reason, words)) in (1..).zip(all) {
+        assert_eq!(reason.number(), number);
+        let error: Box<dyn Error> = Box::new(reason);
         let text = error.to_string();
         assert!(
             text.len() > 10 && words.iter().all(|word| text.contains(word)),
             "{text}"
         );
-        if let Ok(error) = FlowSpecError::try_from(refusal) {
-            assert_eq!(Refusal::from(error), refusal);
+        for (refusal, said) in [
+            (Refusal::from(reason), text.clone()),
+            (Refusal::at(reason, 200), format!("octet 200: {text}")),
+        ] {
+            assert_eq!((refusal.reason(), refusal.number()), (reason, number));
+            assert!(refusal.carried().eq(reason.carried()));
+            let error: Box<dyn Error> = Box::new(refusal);
+            assert_eq!(error.to_string(), said);
+            match FlowSpecError::try_from(refusal) {
+                Ok(error) => {
+                    assert!(number <= 6);
+                    assert_eq!(Refusal::from(error.clone()), Refusal::from(reason));
+                    assert_eq!(
+                        (Reason::from(error.clone()), Ok(error)),
+                        (reason, reason.try_into())
+                    );
+                }
+                Err(other) => assert!(number > 6 && other == refusal),
+            }
         }
     }
 }

@@ -366,7 +366,7 @@ fn owned_rules_have_their_grounds() {
         let rule = FlowSpecNlri::new(vec![component]);
         let ground = why(family, &rule).unwrap();
         assert!(ground.to_string().contains("no prefix of IPv"), "{ground}");
-        assert_eq!(write(family, &rule), Err(Refusal::BadRecord));
+        assert_eq!(write(family, &rule), Err(Reason::BadRecord.into()));
     }
 }
 

@@ -175,6 +175,19 @@ pub fn put_refusal(number: u64, carried: impl IntoIterator<Item = u64>, out: &mu
     }
 }
 
+/// Puts a refusal with its place, `-` where it carries nothing and where it has no place.
+pub fn put_placed_refusal(number: u64, carried: &[u64], place: Option<u64>, out: &mut Vec<u8>) {
+    out.extend_from_slice(b"err ");
+    put_number(number, out);
+    out.push(b' ');
+    put_values(carried, out);
+    out.extend_from_slice(b" @");
+    match place {
+        None => out.extend_from_slice(NONE),
+        Some(place) => put_number(place, out),
+    }
+}
+
 fn put_joined(numbers: impl Iterator<Item = u64>, out: &mut Vec<u8>) {
     for (place, number) in numbers.enumerate() {
         if place > 0 {

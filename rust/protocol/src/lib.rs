@@ -9,17 +9,21 @@
 //! | request | answer |
 //! |---|---|
 //! | `plain_read OCTETS V,O` (places lent in the lists of values and octets), `std_read4`, `std_read6` | `ok USED OPERATORS RULE` |
+//! | `std_read FAMILY - OCTETS PLACES` (lent in each list) | `ok USED OPERATORS - RULE` |
 //! | `check FAMILY OCTETS`, the family `plain` for the plain reading | `ok USED OPERATORS` |
+//! | `plain_place OCTETS` | `ok USED` |
 //! | `plain_write COMPONENTS VALUES OCTETS ROOM`, `std_write FAMILY COMPONENTS VALUES OCTETS ROOM` | `ok OCTETS` |
 //! | `match FAMILY OCTETS PACKET` | `yes`, `no` |
 //! | `rank FAMILY OCTETS OCTETS` | `first`, `second`, `equal` |
 //! | `choose PACKET RULES` | `ok PLACE`, `ok none` |
 //!
-//! A refusal is `err`, its number and, joined by commas, what it carries. A rule is `-` where it has
-//! no components, else components joined by `;`: `TYPE:4/LENGTH/HEX`, `TYPE:6/LENGTH/HEX`, with an
-//! offset `TYPE:4o/OFFSET/LENGTH/HEX` or `TYPE:6o/OFFSET/LENGTH/HEX`, or a list,
-//! `TYPE:OCTET=VALUE,OCTET=VALUE`; in a writing a list is `TYPE:@START+COUNT`. Rules to choose from
-//! are `FAMILY=RULE`, joined by `&`, `.` for none. A packet is
+//! A refusal is `err`, its number and, joined by commas, what it carries; of `std_read` and
+//! `plain_place` it is `err NUMBER CARRIED @PLACE`, `-` for nothing carried and for no place, and
+//! the two lone `-` of `std_read` stand for no distinguisher, which no reading expects. A rule is `-`
+//! where it has no components, else components joined by `;`: `TYPE:4/LENGTH/HEX`,
+//! `TYPE:6/LENGTH/HEX`, with an offset `TYPE:4o/OFFSET/LENGTH/HEX` or `TYPE:6o/OFFSET/LENGTH/HEX`, or
+//! a list, `TYPE:OCTET=VALUE,OCTET=VALUE`; in a writing a list is `TYPE:@START+COUNT`. Rules to choose
+//! from are `FAMILY=RULE`, joined by `&`, `.` for none. A packet is
 //! `family|source|destination|protocol|length|dscp|fragment|ports|icmp|flags|label`.
 //! `rust/oracle/src/help.txt` has the oracle's calls, whose octets and rules are the same and whose
 //! other numbers are hex.
@@ -35,7 +39,7 @@ mod rules;
 pub mod words;
 
 pub use fields::{cut, hex_number, number, octet_number, octets, pair, values, Bad, Read, NONE};
-pub use fields::{put_number, put_octets, put_refusal, put_values, text};
+pub use fields::{put_number, put_octets, put_placed_refusal, put_refusal, put_values, text};
 pub use packets::{Packet, PACKET};
 pub use rules::{component, components, operators, span};
 pub use rules::{put_operators, put_rule, put_span};

@@ -2,8 +2,8 @@
 
 use protocol::{
     components, hex_number, number, octet_number, octets, operators, pair, put_octets,
-    put_operators, put_refusal, put_rule, put_span, put_values, span, text, values, words, Bad,
-    Component, Operator, Packet, Read, Span,
+    put_operators, put_placed_refusal, put_refusal, put_rule, put_span, put_values, span, text,
+    values, words, Bad, Component, Operator, Packet, Read, Span,
 };
 
 type Rule<L> = Vec<Component<L>>;
@@ -200,6 +200,12 @@ fn refusals_carry_numbers() {
     assert_eq!(text(|out| put_refusal(1, [], out)), "err 1");
     assert_eq!(text(|out| put_refusal(9, [3], out)), "err 9 3");
     assert_eq!(text(|out| put_refusal(2, [5, 4], out)), "err 2 5,4");
+    let placed = |number, carried: &[u64], place| {
+        text(|out| put_placed_refusal(number, carried, place, out))
+    };
+    assert_eq!(placed(1, &[], Some(0)), "err 1 - @0");
+    assert_eq!(placed(2, &[5, 4], Some(12)), "err 2 5,4 @12");
+    assert_eq!(placed(9, &[3], None), "err 9 3 @-");
     assert_eq!(
         number(b"x").map_err(|Bad(reason)| reason.len() > 10),
         Err(true)

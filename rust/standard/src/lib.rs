@@ -7,15 +7,21 @@
 //! time, a numeric list is the set of numbers that satisfy it, and the chooser sorts its rules. It
 //! allocates what it answers, so refusal 9, NoRoom, has no counterpart here. `direct` answers as the
 //! chooser does by a way that is fast too, to be timed.
+//!
+//! The refusal of a reading has the place of the wrong octet. bgpkit-parser tells none, so that the
+//! plain reading is here too, as far as it tells what a rule takes or where it broke.
 
 // In order: each takes from those above it alone.
 mod refusals;
 mod rules;
 mod terms;
 
+mod octets;
 mod packets;
 mod reading;
 mod writing;
+
+mod plain;
 
 mod checking;
 mod matching;
@@ -27,8 +33,9 @@ pub mod direct;
 pub use choosing::choose;
 pub use matching::matches;
 pub use packets::Packet;
+pub use plain::plain_used;
 pub use ranking::{precedes, rank};
 pub use reading::{read, Reading};
-pub use refusals::Refusal;
+pub use refusals::{Fault, Refusal};
 pub use rules::{Address, Component, Content, Flow, Operator, Prefix, Rule};
 pub use writing::write;

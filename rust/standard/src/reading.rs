@@ -1,6 +1,7 @@
 //! The standard reading.
 
-use crate::refusals::Refusal;
+use crate::octets::Octets;
+use crate::refusals::{Fault, Refusal};
 use crate::rules::{Address, Component, Content, Operator, Prefix, Rule};
 use crate::terms::{is_ipv6_range, kind_of, width, without_reserved, Family, Kind, AND, END};
 
@@ -12,58 +13,23 @@ pub struct Reading {
 }
 
 /// Reads the rule at the front of the input. The family is 4 or 6.
-pub fn read(family: u8, input: &[u8]) -> Result<Reading, Refusal> {
+pub fn read(family: u8, input: &[u8]) -> Result<Reading, Fault> {
     let family = Family::of(family)?;
-    let mut input = Octets(input);
-    let before = input.0.len();
-    let length = read_length(&mut input)?;
-    let body = input.take(length)?;
-    let used = before - input.0.len();
-    let components = read_body(family, Octets(body))?;
+    let mut octets = Octets::new(input);
+    let used = octets.stated_end()?;
+    let components = read_body(family, octets.up_to(used))?;
     Ok(Reading {
         rule: Rule { components },
         used,
     })
 }
 
-/// Octets still to be read. All that are asked for are there, or the rule is refused.
-struct Octets<'a>(&'a [u8]);
-
-impl<'a> Octets<'a> {
-    fn take(&mut self, count: usize) -> Result<&'a [u8], Refusal> {
-        if count > self.0.len() {
-            return Err(Refusal::InsufficientData);
-        }
-        let (taken, rest) = self.0.split_at(count);
-        self.0 = rest;
-        Ok(taken)
-    }
-
-    fn one(&mut self) -> Result<u8, Refusal> {
-        Ok(self.take(1)?[0])
-    }
-}
-
-/// RFC 8955, 4.1: one octet below 240, else twelve bits behind a first F.
-fn read_length(octets: &mut Octets) -> Result<usize, Refusal> {
-    let first = usize::from(octets.one()?);
-    if first < 240 {
-        return Ok(first);
-    }
-    let second = usize::from(octets.one()?);
-    Ok((first & 0x0F) * 256 + second)
-}
-
-/// RFC 8955, 4.2: components to the end of the body, each type above the one before.
-fn read_body(family: Family, mut body: Octets) -> Result<Vec<Component>, Refusal> {
+/// RFC 8955, 4.2: components to the end of the body.
+fn read_body(family: Family, mut body: Octets) -> Result<Vec<Component>, Fault> {
     let mut components = Vec::new();
     let mut previous = 0;
-    while !body.0.is_empty() {
-        let found = body.one()?;
-        if found <= previous {
-            return Err(Refusal::InvalidComponentOrder { previous, found });
-        }
-        let kind = kind_of(family, found).ok_or(Refusal::InvalidComponentType(found))?;
+    while !body.is_at_end() {
+        let (found, kind) = read_type(family, previous, &mut body)?;
         let content = match (kind, family) {
             (Kind::Prefix, Family::Ipv4) => Content::Prefix(read_ipv4(&mut body)?),
             (Kind::Prefix, Family::Ipv6) => Content::Prefix(read_ipv6(&mut body)?),
@@ -78,11 +44,27 @@ fn read_body(family: Family, mut body: Octets) -> Result<Vec<Component>, Refusal
     Ok(components)
 }
 
+/// RFC 8955, 4.2: a type above the one before, and one of the family's.
+pub(crate) fn read_type(
+    family: Family,
+    previous: u8,
+    octets: &mut Octets,
+) -> Result<(u8, Kind), Fault> {
+    let place = octets.place();
+    let found = octets.one()?;
+    if found <= previous {
+        return Err(Refusal::InvalidComponentOrder { previous, found }.at(place));
+    }
+    let kind = kind_of(family, found).ok_or(Refusal::InvalidComponentType(found).at(place))?;
+    Ok((found, kind))
+}
+
 /// RFC 8955, 4.2.2.1: the length in bits, then the octets that hold so many.
-fn read_ipv4(octets: &mut Octets) -> Result<Prefix, Refusal> {
+fn read_ipv4(octets: &mut Octets) -> Result<Prefix, Fault> {
+    let place = octets.place();
     let length = octets.one()?;
     if length > 32 {
-        return Err(Refusal::InvalidPrefix);
+        return Err(Refusal::InvalidPrefix.at(place));
     }
     let pattern = octets.take(octets_for(length))?;
     let mut address = 0;
@@ -99,12 +81,14 @@ fn read_ipv4(octets: &mut Octets) -> Result<Prefix, Refusal> {
 }
 
 /// RFC 8956, 3.1: the length, the offset, then the address bits from the offset up to the length.
-/// The pattern begins at the front of its first octet; what pads its last is ignored.
-fn read_ipv6(octets: &mut Octets) -> Result<Prefix, Refusal> {
+/// The pattern begins at the front of its first octet; what pads its last is ignored. A bad pair
+/// has the place of its length.
+fn read_ipv6(octets: &mut Octets) -> Result<Prefix, Fault> {
+    let place = octets.place();
     let length = octets.one()?;
     let offset = octets.one()?;
     if !is_ipv6_range(length, offset) {
-        return Err(Refusal::InvalidPrefix);
+        return Err(Refusal::InvalidPrefix.at(place));
     }
     let bits = length - offset;
     let pattern = octets.take(octets_for(bits))?;
@@ -123,7 +107,7 @@ fn read_ipv6(octets: &mut Octets) -> Result<Prefix, Refusal> {
 
 /// RFC 8955, 4.2.1: operators with their values up to the one that has the end bit. Reserved bits
 /// are ignored, and so is AND on the first, which has none before it.
-fn read_list(kind: Kind, octets: &mut Octets) -> Result<Vec<Operator>, Refusal> {
+fn read_list(kind: Kind, octets: &mut Octets) -> Result<Vec<Operator>, Fault> {
     let mut list = Vec::new();
     loop {
         let mut octet = without_reserved(kind, octets.one()?);
@@ -142,7 +126,7 @@ fn read_list(kind: Kind, octets: &mut Octets) -> Result<Vec<Operator>, Refusal> 
 }
 
 /// How many octets hold so many bits.
-fn octets_for(bits: u8) -> usize {
+pub(crate) fn octets_for(bits: u8) -> usize {
     (usize::from(bits) + 7) / 8
 }
 

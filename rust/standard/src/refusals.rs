@@ -1,4 +1,4 @@
-//! Why a call is refused.
+//! Why a call is refused, and where the octets of a reading broke.
 
 /// Why a call is refused, with document 01's numbers.
 #[derive(Debug, Clone, Copy, PartialEq, Eq)]
@@ -11,8 +11,12 @@ pub enum Refusal {
     InvalidComponentType(u8),
     /// 4
     InvalidPrefix,
+    /// 5, by the plain reading
+    InvalidOperator(u8),
     /// 7, with the length of the body
     ValueTooLarge(usize),
+    /// 8, by the plain reading, with the length of the input
+    InputTooLong(usize),
     /// 10
     BadRecord,
     /// 11
@@ -23,4 +27,31 @@ pub enum Refusal {
     BadPacket,
     /// 14, with the place of the first rule that is of another family
     MixedFamily(usize),
+}
+
+/// Why a reading is refused and, for 1 to 5, the place of the wrong octet, counted from the start of
+/// the input (document 02, W-202).
+#[derive(Debug, Clone, Copy, PartialEq, Eq)]
+pub struct Fault {
+    pub refusal: Refusal,
+    pub place: Option<usize>,
+}
+
+impl Refusal {
+    pub fn at(self, place: usize) -> Fault {
+        Fault {
+            refusal: self,
+            place: Some(place),
+        }
+    }
+}
+
+/// What no octet causes has no place.
+impl From<Refusal> for Fault {
+    fn from(refusal: Refusal) -> Self {
+        Fault {
+            refusal,
+            place: None,
+        }
+    }
 }

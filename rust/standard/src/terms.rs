@@ -48,11 +48,12 @@ pub(crate) const NOT: u8 = 0x02;
 pub(crate) const MATCH: u8 = 0x01;
 
 /// The most rules that there may be to choose from, components and operators that a rule may have,
-/// and the longest body that a length field can state.
+/// the longest body that a length field can state, and the longest input of the plain reading.
 pub(crate) const RULES: usize = 64;
 pub(crate) const COMPONENTS: usize = 13;
 pub(crate) const OPERATORS: usize = 2047;
 pub(crate) const BODY: usize = 4095;
+pub(crate) const INPUT: usize = 4097;
 
 /// How many octets the value behind an operator octet has.
 pub(crate) fn width(octet: u8) -> usize {

@@ -3,7 +3,7 @@
 mod common;
 
 use common::{ipv4, ipv6, list, octets, rule};
-use standard::{read, write, Component, Content, Refusal};
+use standard::{read, write, Component, Content, Fault, Refusal};
 
 /// The input is read as the rule, all of it used, and the rule is written as these octets, which
 /// read as the rule again.
@@ -23,8 +23,14 @@ fn trips(family: u8, input: &str, components: &[Component]) {
     reads(family, input, components, input);
 }
 
+/// The input is refused; tests/places.rs has where.
 fn refuses(family: u8, input: &str, refusal: Refusal) {
-    assert_eq!(read(family, &octets(input)), Err(refusal), "{input}");
+    let reading = read(family, &octets(input));
+    assert_eq!(
+        reading.map_err(|fault| fault.refusal),
+        Err(refusal),
+        "{input}"
+    );
 }
 
 const SHORT: Refusal = Refusal::InsufficientData;
@@ -163,7 +169,7 @@ fn worked_examples_of_rfc_8956() {
 fn families() {
     for family in (0..=255).filter(|family| ![4, 6].contains(family)) {
         let refusal = Refusal::BadFamily(family);
-        assert_eq!(read(family, &[]), Err(refusal));
+        assert_eq!(read(family, &[]), Err(Fault::from(refusal)));
         // Before all else, also where the record is bad.
         assert_eq!(write(family, &rule(&[list(99, &[])])), Err(refusal));
     }

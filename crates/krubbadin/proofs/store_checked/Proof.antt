@@ -1,5 +1,5 @@
 -- `krubbadin::store_checked` meets its contract: what was checked is what the first pass answers, and the rest goes as in `reading::read_into`.
-use mathlib.Core.Path.{sym, ap, _∙_}
+use mathlib.Core.Path.{ap}
 use Rattle.reading.specs.Readings.{readAt}
 use Rattle.reading.proofs.Rooms.{tested, room}
 use Rattle.reading.proofs.Ways.{no-room, all-stored}
@@ -37,7 +37,7 @@ returns-2 c =
     let g = l .before .before .before .before .before in
     let q = told-taken (g .args .checked) (readAt (g .args .reading) (g .args .input .now)) (g .pre .0) (g .pre .1) in
     let p = all-stored (g .args .reading) (g .args .input .now) (g .args .words .now) (g .args .values .now) (g .args .octets .now) q (l .lacking .ensures) (e .if1 .left) (o .store .ensures .0) (o .store .ensures .1 .0) (o .store .ensures .1 .1) in
-    (g .pre .0 ∙ sym (ap readAnswer q) ∙ ap readAnswer (p .0), p .1)
+    (ap readAnswer (p .0), p .1)
 
 pub store-checked-spec : {M : Type 1} → statement M
 store-checked-spec =

@@ -17,6 +17,7 @@ use Rattle.listing.proofs.put_refusal.Lts as lts
 use Rattle.listing.proofs.put.Reads as put-reads
 use Rattle.listing.proofs.put_carried.Reads as put-carried-reads
 use Rattle.listing.proofs.put_number_line.Reads as put-number-line-reads
+use Rattle.listing.proofs.put_place.Reads as put-place-reads
 use Rattle.listing.proofs.put_text.Reads as put-text-reads
 use Rattle.refusals.proofs.numbered.Reads as numbered-reads
 
@@ -56,18 +57,33 @@ put-requires c κs =
     let s = n .before .before in
     record { fits = omega (arith, simp length-append at (s .pre .fits), ap (λ (x : Numbers). length (numberLine (ascii "status=") (x .number))) (n .numbered .ensures), ap (λ (ns : List ℕ). length (commas ns)) (carried-in (s .args .fault .error) (n .numbered .ensures)), h1 .put-text .ensures .place, h2 .put-number-line .ensures .place, h3 .put-text2 .ensures .place, h4 .put-carried .ensures .place) }
 
+put-place-requires : tie.Need-put-place-requires
+unfolding refusalLines
+put-place-requires c κs =
+    let h5 = c .before .before .before in
+    let h4 = h5 .before .before .before .before in
+    let h3 = h4 .before .before .before .before in
+    let h2 = h3 .before .before .before .before .before in
+    let h1 = h2 .before .before .before .before .before .before in
+    let n = h1 .before .before .before in
+    let s = n .before .before in
+    record { fits = omega (arith, simp length-append at (s .pre .fits), ap (λ (x : Numbers). length (numberLine (ascii "status=") (x .number))) (n .numbered .ensures), ap (λ (ns : List ℕ). length (commas ns)) (carried-in (s .args .fault .error) (n .numbered .ensures)), h1 .put-text .ensures .place, h2 .put-number-line .ensures .place, h3 .put-text2 .ensures .place, h4 .put-carried .ensures .place, h5 .put .ensures .place) }
+
 returns : tie.Need-returns
 unfolding refusalLines
 returns c =
-    let h5 = c .before .before in
+    let h6 = c .before .before in
+    let h5 = h6 .before .before .before .before in
     let h4 = h5 .before .before .before .before in
     let h3 = h4 .before .before .before .before in
     let h2 = h3 .before .before .before .before .before in
     let h1 = h2 .before .before .before .before .before .before in
     let n = h1 .before .before .before in
     let e = n .before .before .args .fault .error in
-    joins _ _ (joins _ _ (h1 .put-text .ensures) (put-same (ap (λ (x : Numbers). numberLine (ascii "status=") (x .number)) (n .numbered .ensures)) (h2 .put-number-line .ensures)))
-    (joins _ _ (joins _ _ (h3 .put-text2 .ensures) (put-same (ap commas (carried-in e (n .numbered .ensures))) (h4 .put-carried .ensures))) (h5 .put .ensures))
+    joins _ _
+    (joins _ _ (joins _ _ (h1 .put-text .ensures) (put-same (ap (λ (x : Numbers). numberLine (ascii "status=") (x .number)) (n .numbered .ensures)) (h2 .put-number-line .ensures)))
+    (joins _ _ (joins _ _ (h3 .put-text2 .ensures) (put-same (ap commas (carried-in e (n .numbered .ensures))) (h4 .put-carried .ensures))) (h5 .put .ensures)))
+    (h6 .put-place .ensures)
 
 pub put-refusal-spec : {M : Type 1} → statement M
 put-refusal-spec =
@@ -83,5 +99,6 @@ put-refusal-spec =
     put-text-requires-2
     put-carried-requires
     put-requires
+    put-place-requires
     (λ c. search needs)
     returns)

@@ -16,8 +16,8 @@ use Rattle.operators.proofs.kind_of.Reads as kind-of-reads
 returns : tie.Need-returns
 returns c = sym (list-missing _ _ _ _ (c .if1 .taken))
 
-add-t11 : tie.Need-add-t11
-add-t11 c = omega (arith, alone-is _ _ (sym (c .before .alone .ensures) ∙ c .if2 .taken) .0, c .before .before .before .before .good)
+add-t13 : tie.Need-add-t13
+add-t13 c = omega (arith, alone-is _ _ (sym (c .before .alone .ensures) ∙ c .if2 .taken) .0, c .before .before .before .before .good)
 
 returns-2 : tie.Need-returns-2
 returns-2 c = sym (alone-done _ _ _ _ (sym (c .before .alone .ensures) ∙ c .if2 .taken))
@@ -31,7 +31,7 @@ measure-spec =
     (tie.spec
     returns
     (λ c κs. search needs)
-    add-t11
+    add-t13
     returns-2
     (λ c κs. search needs)
     (λ c κs. search needs)

@@ -3,14 +3,16 @@ use Prim.Native.Nat.{_≤_}
 use mathlib.Core.Path.{sym, ap, _∙_}
 use native.Mathlib.Omega.{arith}
 use lib.ListN.{length}
+use Rattle.ground.specs.Answers.{declines}
 use Rattle.walk.specs.Walks.{toldWalk}
-use Rattle.reading.proofs.Ways.{bound-in, stated-past, walk-taken}
+use Rattle.reading.proofs.Ways.{bound-in, stated-past, walk-taken, walk-movable}
 use borrow.Author.Needs.{needs}
 use Rattle.reading.proofs.test_body.Statement.{statement}
 use Rattle.reading.proofs.test_body.Tie as tie
 use Rattle.reading.proofs.test_body.Reads as reads
 use Rattle.reading.proofs.test_body.Lts as lts
 use Rattle.choices.proofs.bound.Reads as bound-reads
+use Rattle.refusals.proofs.Fault.moved.Reads as moved-reads
 use Rattle.walk.proofs.walk.Reads as walk-reads
 
 -- the part that the walk sees is within the input
@@ -44,13 +46,22 @@ returns-2 c =
     let g = b .before .before .before in
     walk-taken (g .args .reading) (g .args .input .now) (g .args .start) (g .args .size) (g .pre) (b .before .if1 .left) (b .bound .ensures) (sym (ap toldWalk (o .operators .given .1)) ∙ w .walk .ensures)
 
-returns-3 : tie.Need-returns-3
-returns-3 c =
+moved-requires : tie.Need-moved-requires
+moved-requires c κs =
     let o = c .before in
     let w = o .before .before in
     let b = w .before .before in
     let g = b .before .before .before in
-    walk-taken (g .args .reading) (g .args .input .now) (g .args .start) (g .args .size) (g .pre) (b .before .if1 .left) (b .bound .ensures) (sym (ap toldWalk (o .fault .given .1)) ∙ w .walk .ensures)
+    walk-movable (g .args .reading) (g .args .input .now) (g .args .start) (g .args .size) (b .bound .result) (in-body b .0) (in-body b .1) (omega (arith, g .good))
+    (o .fault .given .0 .0) (sym (ap toldWalk (o .fault .given .1)) ∙ w .walk .ensures)
+
+returns-3 : tie.Need-returns-3
+returns-3 c =
+    let o = c .before .before in
+    let w = o .before .before in
+    let b = w .before .before in
+    let g = b .before .before .before in
+    ap declines (c .moved .ensures) ∙ walk-taken (g .args .reading) (g .args .input .now) (g .args .start) (g .args .size) (g .pre) (b .before .if1 .left) (b .bound .ensures) (sym (ap toldWalk (o .fault .given .1)) ∙ w .walk .ensures)
 
 pub test-body-spec : {M : Type 1} → statement M
 test-body-spec =
@@ -66,5 +77,6 @@ test-body-spec =
     (λ c κs. search needs)
     (λ c. search needs)
     (λ c. search needs)
+    moved-requires
     returns-2
     returns-3)

@@ -76,7 +76,8 @@ fn wanted(arguments: &[String]) -> Option<Wanted> {
     Some(wanted)
 }
 
-/// Readings and writings of these forms: those made by rule, then so many random ones in turn.
+/// Readings and writings of these forms: those made by rule, then so many random ones in turn; between
+/// them the truncations of good inputs.
 fn part(comparison: &mut Comparison, name: &str, forms: &[Form], wanted: &Wanted) {
     let mut random = Random::new(wanted.seed);
     let mut section = Section::new(comparison, name, "readings");
@@ -90,6 +91,14 @@ fn part(comparison: &mut Comparison, name: &str, forms: &[Form], wanted: &Wanted
         section.comparison.reading(form, &input);
     }
     section.said("random");
+
+    let mut section = Section::new(comparison, name, "truncations");
+    for &form in forms {
+        for input in inputs::good_inputs(form) {
+            section.comparison.truncations(form, &input);
+        }
+    }
+    section.said("of good ones");
 
     let mut section = Section::new(comparison, name, "writings");
     for &form in forms {

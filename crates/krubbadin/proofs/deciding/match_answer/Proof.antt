@@ -1,5 +1,6 @@
 -- `krubbadin::deciding::match_answer` meets its contract, by the answer.
-use Rattle.krubbadin.specs.Deciding.{givenWith, matchAnswer}
+use Rattle.krubbadin.specs.Surface.{givenWith}
+use Rattle.krubbadin.specs.Deciding.{matchAnswer}
 use Rattle.verdicts.specs.Verdicts.{toldMatched}
 use Rattle.verdicts.specs.declared.Matched.{Matched}
 use Prim.Native.Nat.{ℕ}

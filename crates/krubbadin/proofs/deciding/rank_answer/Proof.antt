@@ -1,5 +1,6 @@
 -- `krubbadin::deciding::rank_answer` meets its contract, by the answer.
-use Rattle.krubbadin.specs.Deciding.{givenWith, rankAnswer}
+use Rattle.krubbadin.specs.Surface.{givenWith}
+use Rattle.krubbadin.specs.Deciding.{rankAnswer}
 use Rattle.verdicts.specs.Verdicts.{toldRanked}
 use Rattle.verdicts.specs.declared.Ranked.{Ranked}
 use Prim.Native.Nat.{ℕ}

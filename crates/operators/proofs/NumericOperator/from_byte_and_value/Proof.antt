@@ -15,8 +15,8 @@ returns : tie.Need-returns
 unfolding numericFrom
 returns c = simp (eq-eqb _ _ (c .if1 .taken))
 
-cast-t12 : tie.Need-cast-t12
-cast-t12 c = omega (arith, c .width .ensures, width-most (c .before .before .args .octet))
+cast-t13 : tie.Need-cast-t13
+cast-t13 c = omega (arith, c .width .ensures, width-most (c .before .before .args .octet))
 
 returns-2 : tie.Need-returns-2
 unfolding numericFrom
@@ -25,5 +25,5 @@ returns-2 c = simp (ne-eqb _ _ (c .before .if1 .left), c .width .ensures, div-on
 pub from-byte-and-value-spec : {M : Type 1} → statement M
 from-byte-and-value-spec = tie.close (tie.spec returns
     (λ c κs. search needs)
-    cast-t12
+    cast-t13
     returns-2)
