@@ -71,16 +71,14 @@ pub enum Standard {
 pub fn reading_of(family: u8) -> Standard
     ensures { λ r. ⌜ toldStandard r ≡ standardOf family ⌝ }
 {
-    if family == 4 {
-        return Standard::Is(Reading::Ipv4);
+    match family {
+        4 => Standard::Is(Reading::Ipv4),
+        6 => Standard::Is(Reading::Ipv6),
+        _ => Standard::Refused(Fault {
+            error: FlowSpecError::BadFamily(family),
+            place: Place::Nowhere,
+        }),
     }
-    if family == 6 {
-        return Standard::Is(Reading::Ipv6);
-    }
-    Standard::Refused(Fault {
-        error: FlowSpecError::BadFamily(family),
-        place: Place::Nowhere,
-    })
 }
 
 // The family that a rule bears by each reading, 0 for a plain rule.

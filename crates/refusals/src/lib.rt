@@ -47,10 +47,10 @@ pub enum Place {
     Octet(usize),
 }
 
-// A refusal on its way up.
+// A refusal on its way up. The place stands first: behind the error, a check compiles to half as much code again.
 pub struct Fault {
-    pub error: FlowSpecError,
     pub place: Place,
+    pub error: FlowSpecError,
 }
 
 impl Fault {
