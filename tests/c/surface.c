@@ -1,5 +1,5 @@
 /*
- * The surface from C: document 01's cases ("## Cases") and its refusals, with the places of document 02's W-202, through include/krubbadin.h.
+ * The surface from C: document 01's cases ("## Cases") and its refusals, with their places, through include/krubbadin.h.
  * Prints each check that fails, and last 'N checks, M failed'. tests/c/run builds and runs it, also as C++.
  */
 #include "krubbadin.h"

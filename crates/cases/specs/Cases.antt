@@ -68,7 +68,7 @@ in-all input a = in-one Plain input (a Plain) ++ in-one Ipv4 input (a Ipv4) ++ i
 abbrev rule : List Piece → List Op → ℕ → Reading → Answer ReadRule
 rule ps os used reading = accepts (record { pieces = ps; operators = os; family = familyOf reading; used = used })
 
--- a refusal at a place: document 02, W-202
+-- a refusal at a place
 abbrev refused : ℕ → List ℕ → ℕ → Reading → Answer ReadRule
 refused number carried at reading = refusesAt number carried at
 
@@ -112,7 +112,7 @@ rows =
     ++ in-one Ipv6 (0x03 ∷ 0x03 ∷ 0x89 ∷ 0x06 ∷ []) (protocol-6 Ipv6)
     ++ in-all (0x03 ∷ 0x03 ∷ 0x81 ∷ 0x06 ∷ []) protocol-6
     ++ in-all (0x02 ∷ 0x03 ∷ 0x89 ∷ []) (refused 1 [] 3)
-    -- .. W-202: in 02 03 91 00 a value's second octet is missing, in the plain reading at the input's end, in a standard one at the stated end
+    -- 02 03 91 00: 1, in plain at place 4, in standard at 3
     ++ in-one Plain (0x02 ∷ 0x03 ∷ 0x91 ∷ 0x00 ∷ []) (refusesAt 1 [] 4)
     ++ in-one Ipv4 (0x02 ∷ 0x03 ∷ 0x91 ∷ 0x00 ∷ []) (refusesAt 1 [] 3)
     ++ in-one Ipv6 (0x02 ∷ 0x03 ∷ 0x91 ∷ 0x00 ∷ []) (refusesAt 1 [] 3)

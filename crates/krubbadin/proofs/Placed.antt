@@ -1,4 +1,4 @@
--- What the place adds to a reading's answer, and what it leaves. "Demand 2 still compares the plain answer without the place": the numbers
+-- What the place adds to a reading's answer, and what it leaves. "Demand 2 compares the plain answer without the place": the numbers
 -- that are compared with the Rust's are those of the answer without its place. And all ones stand for no place alone.
 use Prim.Native.Nat.{ℕ, _-_, _^_, _<_}
 use mathlib.Core.Path.{_≡_, refl}

@@ -1,7 +1,6 @@
 -- What the exported functions on stored rules answer: the definitions' answers in four numbers.
 use Prim.Native.Nat.{ℕ}
 use mathlib.Core.Bool.{Bool}
-use mathlib.Core.List.{List}
 use Rattle.ground.specs.Answers.{Answer, accepts, declines}
 use Rattle.operators.specs.Operators.{weightOf}
 use Rattle.ranking.specs.declared.Order.{Order}

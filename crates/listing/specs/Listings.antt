@@ -58,7 +58,7 @@ prefixLine (Ipv6Offset len off h l) = []
 abbrev pub detailLine : List ℕ → List ℕ
 detailLine ns = ascii "detail=" ++ commas ns ++ ascii "\n"
 
--- "flowlist prints `place` after `detail`, empty for 8" (document 02, W-202)
+-- "then `place`, empty for 8"
 abbrev pub placeLine : Place → List ℕ
 placeLine nowhere = ascii "place=\n"
 placeLine (at-octet at) = numberLine (ascii "place=") at

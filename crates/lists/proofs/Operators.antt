@@ -7,7 +7,7 @@ use borrow.Author.Tests.{le-leb, lt-leb, lt-ltb, le-ltb}
 use native.Mathlib.Omega.{arith}
 use native.Mathlib.Decide.{decLt}
 use lib.ListN.{length, getD}
-use Rattle.ground.specs.Answers.{Answer, Refused, at-octet, refused, accepts, refusesAt, declines}
+use Rattle.ground.specs.Answers.{Refused, at-octet, refused, accepts, refusesAt, declines}
 use Rattle.ground.proofs.Answers.{never, same-refusal}
 use Rattle.ground.proofs.Cases.{by-cases, by-test}
 use Rattle.octets.specs.Widths.{widthOf}

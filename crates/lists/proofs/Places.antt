@@ -1,7 +1,8 @@
--- Where a list broke, and that no octet behind that place plays a part: document 02, W-202. An accepted list goes by the octets up to its end.
+-- Where a list broke, and that no octet behind that place plays a part: document 01, "What comes back". An accepted list goes by the octets
+-- up to its end.
 use Prim.Native.Nat.{ℕ, zero, suc, _+_, _≤_, _<_}
 use mathlib.Core.Path.{_≡_, refl, sym, _∙_, ap, subst}
-use mathlib.Core.Bool.{true, false}
+use mathlib.Core.Bool.{true}
 use mathlib.Core.List.{List, [], _∷_}
 use native.Mathlib.Omega.{arith}
 use native.Mathlib.Decide.{decLt}
@@ -16,8 +17,8 @@ use Rattle.choices.specs.Choices.{refusedIn}
 use Rattle.operators.specs.Ops.{kindOf, Op}
 use Rattle.lists.specs.declared.Tally.{Tally}
 use Rattle.lists.specs.Lists.{tally, plus, opAt, afterOp, operatorAt, listAt}
-use Rattle.lists.proofs.Operators.{operator-missing, operator-cut, operator-refused, operator-taken, Taken, taken}
-use Rattle.lists.proofs.Equations.{list-missing, list-stops, list-last, list-more, plus-refuses}
+use Rattle.lists.proofs.Operators.{operator-missing, operator-cut, operator-refused, operator-taken, taken}
+use Rattle.lists.proofs.Equations.{list-stops, list-last, list-more, plus-refuses}
 use Rattle.lists.proofs.Chains.{Chain, last, more, list-chain, list-counts, chain-whole}
 
 module _ (r : Reading) (t : ℕ) (s : List ℕ) where

@@ -1,14 +1,14 @@
--- Where a length field broke, and that no octet behind that place plays a part: document 02, W-202. A field goes by its own octets.
+-- Where a length field broke, and that no octet behind that place plays a part: document 01, "What comes back". A field goes by its own
+-- octets.
 use Prim.Native.Nat.{ℕ, _+_, _*_, _%_, _≤_, _<_}
-use mathlib.Core.Path.{_≡_, refl, sym, _∙_, ap, ap₂, subst}
+use mathlib.Core.Path.{_≡_, sym, _∙_, ap, ap₂, subst}
 use mathlib.Core.List.{List, []}
 use mathlib.Core.Logic.{⊎-elim}
 use native.Mathlib.Omega.{arith}
 use borrow.Author.Tests.{ltb-true}
 use lib.Dec.{ltb}
 use lib.ListN.{length, getD}
-use Rattle.ground.specs.Answers.{Answer, Refused, at-octet, accepts, refusesAt, declines}
-use Rattle.ground.specs.Picks.{pick}
+use Rattle.ground.specs.Answers.{Refused, accepts, refusesAt, declines}
 use Rattle.ground.proofs.Answers.{never, same-refusal}
 use Rattle.ground.proofs.Cases.{by-test, lt-or-le}
 use Rattle.ground.proofs.Places.{Alike, Breaks, breaks-at-end}

@@ -1,14 +1,14 @@
--- Where a prefix broke, and that no octet behind that place plays a part: document 02, W-202. An accepted extent goes by the octets up to its
--- end.
-use Prim.Native.Nat.{ℕ, _+_, _≤_, _<_}
+-- Where a prefix broke, and that no octet behind that place plays a part: document 01, "What comes back". An accepted extent goes by the
+-- octets up to its end.
+use Prim.Native.Nat.{ℕ, _+_, _≤_}
 use mathlib.Core.Path.{_≡_, refl, sym, _∙_, ap, ap₂, subst}
-use mathlib.Core.Bool.{true, false}
+use mathlib.Core.Bool.{false}
 use mathlib.Core.List.{List, []}
 use mathlib.Core.Logic.{⊎-elim}
 use native.Mathlib.Omega.{arith}
 use lib.Dec.{eqb}
 use lib.ListN.{length, getD}
-use Rattle.ground.specs.Answers.{Answer, Refused, at-octet, refused, accepts, refusesAt, declines}
+use Rattle.ground.specs.Answers.{Refused, at-octet, refused, accepts, refusesAt, declines}
 use Rattle.ground.specs.Picks.{pick}
 use Rattle.ground.proofs.Answers.{never, same-refusal}
 use Rattle.ground.proofs.Cases.{by-test, lt-or-le}
@@ -17,7 +17,7 @@ use Rattle.choices.specs.declared.Reading.{Reading}
 use Rattle.choices.specs.declared.Reading.the-variants.{Plain, Ipv4, Ipv6}
 use Rattle.prefixes.specs.declared.Extent.{Extent}
 use Rattle.prefixes.specs.Prefixes.{fromIn, offsetIn, rangeIn, extentOf, namedAt, extentAt, isExtent}
-use Rattle.prefixes.proofs.Laws.{extent-missing, extent-bad, extent-short, extent-whole, from-past, Taken, extent-taken, extent-is}
+use Rattle.prefixes.proofs.Laws.{extent-missing, extent-bad, extent-short, extent-whole, extent-taken, extent-is}
 
 -- how many octets behind its place a refusal goes by: a bad IPv6 pair by its offset octet
 abbrev pub behind : Reading → ℕ → ℕ

@@ -7,7 +7,7 @@ use mathlib.Core.List.{List}
 use native.Mathlib.Omega.{arith}
 use lib.Dec.{ltb, leb, eqb}
 use lib.ListN.{length, getD, length-take, length-drop}
-use Rattle.ground.specs.Answers.{Refused, Answer, answerBy, accepts, refuses, declines}
+use Rattle.ground.specs.Answers.{Refused, Answer, answerBy, accepts, declines}
 use Rattle.ground.proofs.Answers.{same-refusal}
 use Rattle.ground.proofs.Cases.{by-test}
 use Rattle.octets.specs.declared.Length.{Length}

@@ -1,8 +1,8 @@
--- Where a reading broke: document 02, W-202. Every refusal but 8 and 9 has a place. It is at most the input's length; where an octet is missing it is the
--- end that bounded the read; and the octet there is the one that broke it: inputs of one length that agree up to and including it, and for a
--- bad IPv6 pair in the offset octet behind it, are refused alike.
+-- Where a reading broke: document 01, "What comes back". Every refusal but 8 and 9 has a place. It is at most the input's length; where an
+-- octet is missing it is the end that bounded the read; and the octet there is the one that broke it: inputs of one length that agree up to
+-- and including it, and for a bad IPv6 pair in the offset octet behind it, are refused alike.
 use Prim.Native.Nat.{ℕ, _+_, _-_, _≤_, _<_}
-use mathlib.Core.Path.{_≡_, refl, sym, _∙_, ap, ap₂, subst}
+use mathlib.Core.Path.{_≡_, refl, sym, _∙_, ap, subst}
 use mathlib.Core.Bool.{true, false}
 use mathlib.Core.List.{List, [], _∷_}
 use mathlib.Core.Logic.{_⊎_, inl, inr, ⊎-elim}
@@ -177,7 +177,7 @@ module _ (r : Reading) (s : List ℕ) {f : Refused} (e : readAt r s ≡ declines
     is-place : placed .place ≡ p
     is-place = place-in (sym (placed .is) ∙ h)
 
-    -- "a place is at most the input's length", and at most the bound
+    -- a place is at most the bound, and so at most the input's length
     pub within-bound : p ≤ endOf r s
     within-bound = omega (arith, is-place, placed .within)
 
@@ -191,12 +191,12 @@ module _ (r : Reading) (s : List ℕ) {f : Refused} (e : readAt r s ≡ declines
         (λ t. not-nowhere (ap (λ (x : Refused). x .place) (same-refusal (sym (read-long r s t) ∙ e)) ∙ h))
         (λ t. omega (arith, within-bound, end-most r s t o (lengthAt s 0) refl))
 
-    -- "for a missing octet, the place is the bound"
+    -- where an octet is missing, the place is the bound
     pub at-the-bound : f .number ≡ 1 → p ≡ endOf r s
     at-the-bound n = sym is-place ∙ placed .missing n
 
-    -- "two inputs of one length that agree up to and including the place (for a bad IPv6 pair also in the offset octet behind it) get the same
-    -- refusal there"
+    -- inputs of one length that agree up to and including the place, and of a bad IPv6 pair in the offset octet behind it, get the same refusal
+    -- there
     pub same-there : (u : List ℕ) → length u ≡ length s → take (p + 1 + behind r (f .number)) u ≡ take (p + 1 + behind r (f .number)) s → readAt r u ≡ declines f
     same-there u l i = placed .same u (rw is-place (take-alike (p + 1 + behind r (f .number)) s u l i))
 

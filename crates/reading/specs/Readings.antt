@@ -40,7 +40,7 @@ abbrev pub part : List ℕ → ℕ → ℕ → List ℕ
 part s from to = take (to - from) (drop from s)
 
 -- after the length: "a stated end past the input is 1, before the walk"; "The component walk sees only the octets between the length and the
--- stated end", in the plain reading those up to "the end of the input": a place that it names is counted from there. "Used" is "1 or 2 plus
+-- stated end", in the plain reading those up to "the end of the input": its places are counted from there on. "Used" is "1 or 2 plus
 -- the length"
 unfoldable pub statedAt : Reading → List ℕ → ℕ → ℕ → Answer ReadRule
 statedAt reading s start size =

@@ -1,4 +1,4 @@
--- Where a walk broke, by induction over it, and that no octet behind that place plays a part: document 02, W-202.
+-- Where a walk broke, by induction over it, and that no octet behind that place plays a part: document 01, "What comes back".
 use Prim.Native.Nat.{ℕ, zero, suc, _+_, _≤_, _<_}
 use mathlib.Core.Path.{_≡_, refl, sym, _∙_, ap, ap₂, subst}
 use mathlib.Core.List.{List, [], _∷_}
@@ -14,16 +14,15 @@ use Rattle.choices.specs.declared.Reading.{Reading}
 use Rattle.choices.specs.Choices.{lastType}
 use Rattle.operators.specs.Ops.{Op}
 use Rattle.prefixes.specs.declared.Extent.{Extent}
-use Rattle.prefixes.specs.declared.PrefixAt.{PrefixAt}
-use Rattle.prefixes.specs.Prefixes.{extentAt, prefixOn, prefixAt}
-use Rattle.prefixes.proofs.Laws.{prefix-by, extent-next}
+use Rattle.prefixes.specs.Prefixes.{extentAt, prefixOn}
+use Rattle.prefixes.proofs.Laws.{prefix-by}
 use Rattle.prefixes.proofs.Places.{behind, extent-breaks, extent-alike}
 use Rattle.lists.specs.declared.Tally.{Tally}
 use Rattle.lists.specs.Lists.{listAt, opsAt, recordedOps}
 use Rattle.lists.proofs.Laws.{recorded-counts}
 use Rattle.lists.proofs.Places.{list-breaks, list-alike}
 use Rattle.walk.specs.Walks.{FoundAt, prefixFound, listFound, typedAt, componentAt, Body, body, joined, turn, walkFrom, walkAt, sight, seen}
-use Rattle.walk.proofs.Ways.{found-missing, found-order, found-type, found-typed, typed-prefix, typed-list, extended, prefix-seen, measured, list-seen}
+use Rattle.walk.proofs.Ways.{found-missing, found-order, found-type, found-typed, typed-prefix, typed-list, prefix-seen, list-seen}
 use Rattle.walk.proofs.Components.{Here, here, Sighted, sighted}
 
 -- what a component is refused by is its prefix's or its list's refusal

@@ -1,5 +1,5 @@
 //! The place of a refusal is that of the wrong octet, counted from the start of the input, or of a missing octet that of the end before which
-//! it is missing (document 02, W-202): cases by hand, every truncation of good inputs, and inputs made by rule and at random.
+//! it is missing (docs/SCOPE.md, "What comes back"): cases by hand, every truncation of good inputs, and inputs made by rule and at random.
 
 use inputs::{Form, Random, FIXED, LONGEST_BODY};
 use krubbadin::surface::{self, Answer, COUNT, FAMILY, NOWHERE, OPERATORS, WORDS};

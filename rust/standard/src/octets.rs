@@ -34,7 +34,7 @@ impl<'a> Octets<'a> {
     }
 
     /// The next octets, all that are asked for. Where one is missing, the place is the end, though
-    /// some of them be there (document 02, W-202).
+    /// some of them be there (document 01, "What comes back").
     pub(crate) fn take(&mut self, count: usize) -> Result<&'a [u8], Fault> {
         let after = self.after(count)?;
         let taken = &self.bounded[self.place..after];

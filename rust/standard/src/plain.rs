@@ -1,5 +1,5 @@
 //! The plain reading, as far as it tells what a rule takes or where it broke: document 01, "The plain
-//! reading", and document 02, W-202.
+//! reading" and "What comes back".
 
 use crate::octets::Octets;
 use crate::reading::{octets_for, read_type};

@@ -30,7 +30,7 @@ pub enum Refusal {
 }
 
 /// Why a reading is refused and, for 1 to 5, the place of the wrong octet, counted from the start of
-/// the input (document 02, W-202).
+/// the input (document 01, "What comes back").
 #[derive(Debug, Clone, Copy, PartialEq, Eq)]
 pub struct Fault {
     pub refusal: Refusal,

@@ -1,5 +1,5 @@
-//! Where a reading broke: document 02, W-202, on document 01's cases and their neighbours, in all
-//! three readings.
+//! Where a reading broke: document 01, "What comes back", on its cases and their neighbours, in all three
+//! readings.
 
 mod common;
 
