@@ -27,9 +27,9 @@ extern "C" {
  * refusal, and `first` and `second` are what it carries, 0 where it carries less.
  *
  * `place` says where a reading was refused, by 1 to 6: the place of the wrong octet, counted from 0 at the start of the input. That is the
- * type octet of 2 and 3, the prefix's length octet of 4, also where it is the offset that does not fit, and the operator octet of 5. An octet
- * that is missing, 1, has the place just past the end that it is missing before: the input's end in the length and in the plain reading, the
- * stated end in a standard one, or the input's where that comes first. Any other answer has KRUBBADIN_NOWHERE.
+ * type octet of 2 and 3, the prefix's length octet of 4, also where it is the offset that does not fit, and the operator octet of 5 and 6. An
+ * octet that is missing, 1, has the place just past the end that it is missing before: the input's end in the length and in the plain
+ * reading, the stated end in a standard one, or the input's where that comes first. Any other answer has KRUBBADIN_NOWHERE.
  *
  * `place` joined the others later, and the struct is larger for it: an object that was compiled with a header without `place` must be
  * compiled again. Its source code compiles unchanged.
@@ -52,7 +52,8 @@ enum krubbadin_status {
     KRUBBADIN_INVALID_COMPONENT_TYPE = 3,  /* no such component (in this family); first: the type */
     KRUBBADIN_INVALID_PREFIX = 4,          /* a prefix's length or offset is out of range; nothing */
     KRUBBADIN_INVALID_OPERATOR = 5,        /* plain only: a reserved bit is set; first: the operator octet */
-    KRUBBADIN_INVALID_VALUE_LENGTH = 6,    /* met by no call: every width code has a width */
+    KRUBBADIN_INVALID_VALUE_LENGTH = 6,    /* standard krubbadin_read and krubbadin_check only: values of this width are too wide for the
+                                              list's type, be the value there or not; first: the width code, 1 to 3 */
     KRUBBADIN_VALUE_TOO_LARGE = 7,         /* a body of more than 4,095 octets; first: its octets, the length's own not counted */
     KRUBBADIN_INPUT_TOO_LONG = 8,          /* plain only: more than 4,097 octets; first: how many */
     KRUBBADIN_NO_ROOM = 9,                 /* too little was lent; first: the operator places that the whole rule needs (1 where fewer than 64
@@ -81,7 +82,7 @@ static inline const char *krubbadin_status_text(uint64_t status)
     case KRUBBADIN_INVALID_OPERATOR:
         return "a reserved bit is set in an operator octet";
     case KRUBBADIN_INVALID_VALUE_LENGTH:
-        return "a width code has no width";
+        return "a value is too wide for its list's type";
     case KRUBBADIN_VALUE_TOO_LARGE:
         return "the rule's body has more than 4095 octets";
     case KRUBBADIN_INPUT_TOO_LONG:
@@ -129,7 +130,8 @@ static inline const char *krubbadin_status_text(uint64_t status)
  *
  * An operator octet: 0x80 the last of its list; 0x40 joined by AND, by the RFC to the previous operator; 0x30 the width of its value,
  * codes 0 to 3 for 1, 2, 4 and 8 octets; numeric: 0x04 less, 0x02 greater, 0x01 equal; bitmask: 0x02 NOT, 0x01 match. The rest is
- * reserved.
+ * reserved. By the standard, type 9 has values of 1 or 2 octets and types 11 and 12 of 1; by the plain reading and writing every list has
+ * all four widths.
  */
 #define KRUBBADIN_RULE_WORDS 64
 #define KRUBBADIN_WORD_COUNT 52
@@ -172,7 +174,8 @@ static inline uint64_t krubbadin_tcp_flags(uint8_t octet_13, uint8_t octet_14)
  * reading (bgpkit-parser's), which looks at no family; else the standard one in `family`, 4 or 6.
  *
  * Accepted: first is the octets used, second the number of operators. All 64 words are written; words after them and places past the last
- * operator stay. Refused by 8 (plain) or 11 (standard), then by 1 to 5 as the walk meets them, each with its place, then by 9.
+ * operator stay. Refused by 8 (plain) or 11 (standard), then by 1 to 4 and 5 (plain) or 6 (standard) as the walk meets them, each with its
+ * place, then by 9.
  */
 struct krubbadin_answer krubbadin_read(uint8_t standard, uint8_t family,
                                        const uint8_t *input, size_t input_len,
@@ -185,7 +188,8 @@ struct krubbadin_answer krubbadin_read(uint8_t standard, uint8_t family,
  * by the plain reading, which looks at no family; else by the standard one in `family`, 4 or 6.
  *
  * Accepted: first is the octets used, the length's own included, second the number of operators, which is how many places krubbadin_read
- * needs in each list. Refused by 8 (plain) or 11 (standard), then by 1 to 5 as the walk meets them, each with its place, and never by 9.
+ * needs in each list. Refused by 8 (plain) or 11 (standard), then by 1 to 4 and 5 (plain) or 6 (standard) as the walk meets them, each with
+ * its place, and never by 9.
  */
 struct krubbadin_answer krubbadin_check(uint8_t standard, uint8_t family,
                                         const uint8_t *input, size_t input_len);
@@ -194,7 +198,8 @@ struct krubbadin_answer krubbadin_check(uint8_t standard, uint8_t family,
  * Writes the rule in the first 64 words, its operators in the two lists, to the front of `out`. With `standard` 0 it is the plain
  * writing, else the standard one in `family`; the family in the rule's words is not looked at.
  *
- * Accepted: first is the octets written. Later octets of `out` stay. Refused by 11 (standard), 10, 7, 9 in this order.
+ * Accepted: first is the octets written. Later octets of `out` stay. Refused by 11 (standard), 10, 7, 9 in this order. A value that is too
+ * wide for its list's type is 10 to the standard writing, and so to the calls that follow.
  */
 struct krubbadin_answer krubbadin_write(uint8_t standard, uint8_t family,
                                         const uint64_t *words, size_t words_len,

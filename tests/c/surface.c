@@ -191,6 +191,8 @@ static void refused(void)
     CHECK(is_at(4, READS(0, &l, "\x04\x0D\x81\x00\x0E"), 3, 14, 0) && untouched(&l));
     CHECK(is_at(1, READS(4, &l, "\x04\x0D\x81\x00\x0E"), 3, 13, 0) && untouched(&l));
     CHECK(is_at(2, READS(6, &l, "\x03\x01\x40\x40"), 4, 0, 0) && untouched(&l));
+    CHECK(is_at(2, READS(4, &l, "\x04\x0B\x91\x00\x2E"), 6, 1, 0) && untouched(&l));
+    CHECK(is_at(2, READS(6, &l, "\x02\x0B\x91"), 6, 1, 0) && untouched(&l));
     CHECK(is(READS(5, &l, "\x00"), 11, 5, 0) && untouched(&l));
     CHECK(is(reads(0, many, sizeof many, &l), 8, 4098, 0) && untouched(&l));
     CHECK(is(reads(4, many, sizeof many, &l), 0, 1, 0));
@@ -249,6 +251,8 @@ static void checked(void)
     CHECK(is_at(2, CHECKS(6, "\x03\x01\x40\x40"), 4, 0, 0));
     CHECK(is_at(2, CHECKS(0, "\x03\x03\x89\x06"), 5, 0x89, 0));
     CHECK(is(CHECKS(4, "\x03\x03\x89\x06"), 0, 4, 1));
+    CHECK(is_at(2, CHECKS(4, "\x06\x09\xA1\x00\x00\x00\x02"), 6, 2, 0));
+    CHECK(is(CHECKS(0, "\x06\x09\xA1\x00\x00\x00\x02"), 0, 7, 1));
     CHECK(is(krubbadin_check(0, 0, many, sizeof many), 8, 4098, 0));
     CHECK(is(krubbadin_check(1, 4, many, sizeof many), 0, 1, 0));
     CHECK(is(krubbadin_check(1, 5, port_case, 9), 11, 5, 0));
@@ -301,6 +305,57 @@ static void placed(void)
     /* 5: the operator octet; numeric, bitmask */
     CHECK(is_at(6, CHECKS(0, "\x08\x05\x03\x50\x45\x5A\x99\x01\xBB"), 5, 0x99, 0));
     CHECK(is_at(4, CHECKS(0, "\x05\x0C\x01\x01\x84\x01"), 5, 0x84, 0));
+
+    /* 6: the operator octet, the first and a later one, its value there or not */
+    CHECK(is_at(2, CHECKS(4, "\x02\x0B\x91"), 6, 1, 0) && is_at(2, CHECKS(6, "\x04\x0B\x91\x00\x2E"), 6, 1, 0));
+    CHECK(is_at(3, CHECKS(4, "\xF0\x02\x0C\xB1"), 6, 3, 0) && is_at(3, CHECKS(6, "\xF0\x02\x0C\xB1"), 6, 3, 0));
+    CHECK(is_at(5, CHECKS(4, "\x05\x09\x11\x01\x00\xA1"), 6, 2, 0) && is_at(5, CHECKS(6, "\x05\x09\x11\x01\x00\xA1"), 6, 2, 0));
+    CHECK(is_at(3, CHECKS(0, "\x02\x0B\x91"), 1, 0, 0) && is_at(2, CHECKS(4, "\x01\x0B\x91"), 1, 0, 0));
+}
+
+/*
+ * Each list type with a value of each width: the plain calls take it, the standard ones where the type has that width. What is refused is
+ * lent as the plain reading left it, with the family put in.
+ */
+static void widths(void)
+{
+    uint8_t kind, code, family;
+    for (kind = 3; kind <= 13; kind++) {
+        for (code = 0; code < 4; code++) {
+            uint8_t input[11] = {0}, out[11];
+            const size_t length = 3 + ((size_t)1 << code);
+            const int good = code <= (kind == 9 ? 1 : kind == 11 || kind == 12 ? 0 : 3);
+            struct lent l;
+            input[0] = (uint8_t)(length - 1);
+            input[1] = kind;
+            input[2] = (uint8_t)(0x81 | code << 4);
+            input[length - 1] = 2;
+            for (family = 4; family <= 6; family += 2) {
+                uint64_t packet[20] = {0};
+                struct krubbadin_answer a;
+                if (kind == 13 && family == 4) {
+                    continue;
+                }
+                CHECK(is(reads(0, input, length, &l), 0, length, 1) && l.values[0] == 2 && l.octets[0] == input[2]);
+                CHECK(is(krubbadin_write(0, 0, l.words, 64, l.values, 1, l.octets, 1, out, 11), 0, length, 0));
+                CHECK(memcmp(out, input, length) == 0);
+                packet[0] = family;
+                l.words[KRUBBADIN_WORD_FAMILY] = family;
+                a = krubbadin_check(1, family, input, length);
+                CHECK(good ? is(a, 0, length, 1) : is_at(2, a, 6, code, 0));
+                a = krubbadin_write(1, family, l.words, 64, l.values, 1, l.octets, 1, out, 11);
+                CHECK(good ? is(a, 0, length, 0) : is(a, 10, 0, 0));
+                a = krubbadin_match(l.words, 64, l.values, 1, l.octets, 1, packet, 20);
+                CHECK(good ? is(a, 0, 0, 0) : is(a, 10, 0, 0));
+                a = krubbadin_rank(l.words, 64, l.values, 1, l.octets, 1, l.words, 64, l.values, 1, l.octets, 1);
+                CHECK(good ? is(a, 0, 0, 0) : is(a, 10, 0, 0));
+                a = krubbadin_choose(l.words, 64, l.values, 1, l.octets, 1, packet, 20);
+                CHECK(good ? is(a, 0, 0, 0) : is(a, 10, 0, 0));
+                a = reads(family, input, length, &l);
+                CHECK(good ? is(a, 0, length, 1) : is_at(2, a, 6, code, 0) && untouched(&l));
+            }
+        }
+    }
 }
 
 static void matched(void)
@@ -456,6 +511,7 @@ int main(void)
     refused();
     checked();
     placed();
+    widths();
     matched();
     ranked();
     chosen();

@@ -5,7 +5,7 @@ use Prim.Native.Nat.{ℕ, _^_}
 use mathlib.Core.Path.{_≡_, refl}
 use mathlib.Core.Bool.{Bool, true, false}
 use mathlib.Core.List.{List, [], _∷_, _++_, map}
-use Rattle.ground.specs.Answers.{Answer, accepts, refusesAt}
+use Rattle.ground.specs.Answers.{Answer, accepts, refuses, refusesAt}
 use Rattle.choices.specs.declared.Reading.{Reading}
 use Rattle.choices.specs.declared.Reading.the-variants.{Plain, Ipv4, Ipv6}
 use Rattle.choices.specs.Choices.{refusedIn, familyOf, standardOf}
@@ -22,7 +22,7 @@ use Rattle.lists.specs.Lists.{valueAt, operatorAt, listFrom, listAt, opsFrom, o
 use Rattle.walk.specs.Walks.{typedAt, componentAt, walkFrom, walkAt}
 use Rattle.packets.specs.Packets.{Packet, packetOk}
 use Rattle.packets.specs.Shown.{numbersOf}
-use Rattle.listwriting.specs.Lists.{ends, takes}
+use Rattle.listwriting.specs.Lists.{ends, takes, narrow}
 use Rattle.measuring.specs.Bodies.{pieceOctets, bodyOctets}
 use Rattle.measuring.specs.Grounds.{allOperators, pieceTaken, allTaken, inOrder, takenAfter, bodyOf}
 use Rattle.satisfying.specs.Lists.{compared, masked, joined, later, groups, all, any, listMatches}
@@ -34,11 +34,11 @@ use Rattle.ranking.specs.Ranks.{lower, inTurn, rankFront, rankCompared, rankOf}
 use Rattle.verdicts.specs.Verdicts.{wellFormed, matchVerdict}
 use Rattle.choosing.specs.Choosing.{table, Choice, place, none, allBelow, firstFailing, bestBelow, chosenIn}
 
--- what is asked: to read an input; to read it and write the rule again; whether a packet, or any packet whatever, satisfies the rule that
+-- what is asked: to read an input; to read it and write the rule, by one reading and another; whether a packet, or any packet whatever, satisfies the rule that
 -- an input is; which of the rules that some inputs are decides on a packet
 pub data Question : Type 0 where
   read : Reading → List ℕ → Question
-  rewrite : Reading → List ℕ → Question
+  rewrite : Reading → Reading → List ℕ → Question
   match : Reading → List ℕ → Packet → Question
   match-any : Reading → List ℕ → Question
   choose : Reading → List (List ℕ) → Packet → Question
@@ -78,6 +78,9 @@ protocol-6 = rule (Operators 3 0 1 ∷ []) (op 0x81 6 ∷ []) 4
 abbrev port-case : List ℕ
 port-case = 0x08 ∷ 0x05 ∷ 0x03 ∷ 0x50 ∷ 0x45 ∷ 0x5A ∷ 0x91 ∷ 0x01 ∷ 0xBB ∷ []
 
+abbrev wide-dscp : List ℕ
+wide-dscp = 0x04 ∷ 0x0B ∷ 0x91 ∷ 0x00 ∷ 0x2E ∷ []
+
 abbrev two-prefixes : List (List ℕ)
 two-prefixes = (0x03 ∷ 0x01 ∷ 0x08 ∷ 0x0A ∷ []) ∷ (0x04 ∷ 0x01 ∷ 0x10 ∷ 0x0A ∷ 0x01 ∷ []) ∷ []
 
@@ -100,8 +103,8 @@ rows =
     ++ in-one Plain (0xF0 ∷ 0x05 ∷ 0x01 ∷ 0x18 ∷ 0xC0 ∷ 0x00 ∷ 0x02 ∷ []) (rule (Prefix 1 (V4 24 0xC0000200) ∷ []) [] 7 Plain)
     ++ in-one Ipv4 (0xF0 ∷ 0x05 ∷ 0x01 ∷ 0x18 ∷ 0xC0 ∷ 0x00 ∷ 0x02 ∷ []) (rule (Prefix 1 (V4 24 0xC0000200) ∷ []) [] 7 Ipv4)
     -- .. rewritten 05 01 18 C0 00 02
-    ++ case (rewrite Plain (0xF0 ∷ 0x05 ∷ 0x01 ∷ 0x18 ∷ 0xC0 ∷ 0x00 ∷ 0x02 ∷ [])) (octets-are (accepts (0x05 ∷ 0x01 ∷ 0x18 ∷ 0xC0 ∷ 0x00 ∷ 0x02 ∷ [])))
-    ++ case (rewrite Ipv4 (0xF0 ∷ 0x05 ∷ 0x01 ∷ 0x18 ∷ 0xC0 ∷ 0x00 ∷ 0x02 ∷ [])) (octets-are (accepts (0x05 ∷ 0x01 ∷ 0x18 ∷ 0xC0 ∷ 0x00 ∷ 0x02 ∷ [])))
+    ++ case (rewrite Plain Plain (0xF0 ∷ 0x05 ∷ 0x01 ∷ 0x18 ∷ 0xC0 ∷ 0x00 ∷ 0x02 ∷ [])) (octets-are (accepts (0x05 ∷ 0x01 ∷ 0x18 ∷ 0xC0 ∷ 0x00 ∷ 0x02 ∷ [])))
+    ++ case (rewrite Ipv4 Ipv4 (0xF0 ∷ 0x05 ∷ 0x01 ∷ 0x18 ∷ 0xC0 ∷ 0x00 ∷ 0x02 ∷ [])) (octets-are (accepts (0x05 ∷ 0x01 ∷ 0x18 ∷ 0xC0 ∷ 0x00 ∷ 0x02 ∷ [])))
     -- 02 03 81 06 05: plain gives protocol 6; standard 1
     ++ in-one Plain (0x02 ∷ 0x03 ∷ 0x81 ∷ 0x06 ∷ 0x05 ∷ []) (rule (Operators 3 0 1 ∷ []) (op 0x81 6 ∷ []) 3 Plain)
     ++ in-one Ipv4 (0x02 ∷ 0x03 ∷ 0x81 ∷ 0x06 ∷ 0x05 ∷ []) (refusesAt 1 [] 3)
@@ -116,6 +119,19 @@ rows =
     ++ in-one Plain (0x02 ∷ 0x03 ∷ 0x91 ∷ 0x00 ∷ []) (refusesAt 1 [] 4)
     ++ in-one Ipv4 (0x02 ∷ 0x03 ∷ 0x91 ∷ 0x00 ∷ []) (refusesAt 1 [] 3)
     ++ in-one Ipv6 (0x02 ∷ 0x03 ∷ 0x91 ∷ 0x00 ∷ []) (refusesAt 1 [] 3)
+    -- 02 0B 91: plain 1; standard 6 (1). 04 0B 91 00 2E: plain DSCP 46, which the plain writing writes again and the standard one does not take;
+    -- standard 6 (1). 06 09 A1 00 00 01 00: standard 6 (2)
+    ++ in-one Plain (0x02 ∷ 0x0B ∷ 0x91 ∷ []) (refusesAt 1 [] 3)
+    ++ in-one Ipv4 (0x02 ∷ 0x0B ∷ 0x91 ∷ []) (refusesAt 6 (1 ∷ []) 2)
+    ++ in-one Ipv6 (0x02 ∷ 0x0B ∷ 0x91 ∷ []) (refusesAt 6 (1 ∷ []) 2)
+    ++ in-one Plain wide-dscp (rule (Operators 11 0 1 ∷ []) (op 0x91 46 ∷ []) 5 Plain)
+    ++ in-one Ipv4 wide-dscp (refusesAt 6 (1 ∷ []) 2)
+    ++ in-one Ipv6 wide-dscp (refusesAt 6 (1 ∷ []) 2)
+    ++ case (rewrite Plain Plain wide-dscp) (octets-are (accepts wide-dscp))
+    ++ case (rewrite Plain Ipv4 wide-dscp) (octets-are (refuses 10 []))
+    ++ case (rewrite Plain Ipv6 wide-dscp) (octets-are (refuses 10 []))
+    ++ in-one Ipv4 (0x06 ∷ 0x09 ∷ 0xA1 ∷ 0x00 ∷ 0x00 ∷ 0x01 ∷ 0x00 ∷ []) (refusesAt 6 (2 ∷ []) 2)
+    ++ in-one Ipv6 (0x06 ∷ 0x09 ∷ 0xA1 ∷ 0x00 ∷ 0x00 ∷ 0x01 ∷ 0x00 ∷ []) (refusesAt 6 (2 ∷ []) 2)
     -- 01 00: 2 (0, 0). 01 0E: 3 (14). 06 03 81 06 03 81 11: 2 (3, 3)
     ++ in-all (0x01 ∷ 0x00 ∷ []) (refused 2 (0 ∷ 0 ∷ []) 1)
     ++ in-all (0x01 ∷ 0x0E ∷ []) (refused 3 (14 ∷ []) 1)
@@ -156,7 +172,7 @@ abbrev octets : Answer ReadRule → List ℕ
 octets a = map octetOf (operatorsOf a)
 
 abbrev written : Reading → Answer ReadRule → Answer (List ℕ)
-written reading a = writtenFrom reading (wordsOf a) (values a) (octets a) 4097
+written writing a = writtenFrom writing (wordsOf a) (values a) (octets a) 4097
 
 -- rules of prefixes alone, stored one after the other: they have no operators
 unfoldable pub stored : Reading → List (List ℕ) → List ℕ
@@ -165,7 +181,7 @@ stored reading (s ∷ ss) = wordsOf (readAt reading s) ++ stored reading ss
 
 abbrev gives : Packet → Question → Said
 gives anyone (read reading input) = rule-is (readAt reading input)
-gives anyone (rewrite reading input) = octets-are (written reading (readAt reading input))
+gives anyone (rewrite reading writing input) = octets-are (written writing (readAt reading input))
 gives anyone (match reading input p) = let a = readAt reading input in matching-is (matchVerdict (wordsOf a) (values a) (octets a) p)
 gives anyone (match-any reading input) = let a = readAt reading input in matching-is (accepts (ruleMatches (values a) (octets a) anyone (storedAt (wordsOf a) 0)))
 gives anyone (choose reading inputs p) = choice-is (chosenIn (table (stored reading inputs) [] []) p)
@@ -177,5 +193,5 @@ abbrev said : Case → Said
 said c = c .says
 
 pub cases-hold : (anyone : Packet) → map (asked anyone) rows ≡ map said rows
-unfolding rows readAt statedAt walkAt walkFrom componentAt typedAt lengthAt extentAt prefixAt listAt listFrom operatorAt valueAt opsAt opsFrom recordedOps kindOf refusedIn spell writtenFrom bodyFrom bodyIn bodyOf standardOf lengthOctets spelled opsIn listOctets pieceOctets bodyOctets allOperators pieceTaken allTaken inOrder takenAfter ends takes allWords tailWords ruleWords named isPiece pieceOf pieceAt piecesFrom recordsFrom zerosFrom isFramed isRule ruleAt wellFormed matchVerdict packetOk numbersOf someMatches pieceMatches ruleMatches compared masked joined later groups all any listMatches packet from-to flagged to stored lower inTurn rankFront rankCompared rankOf allBelow firstFailing bestBelow chosenIn
+unfolding rows readAt statedAt walkAt walkFrom componentAt typedAt lengthAt extentAt prefixAt listAt listFrom operatorAt valueAt opsAt opsFrom recordedOps kindOf refusedIn spell writtenFrom bodyFrom bodyIn bodyOf standardOf lengthOctets spelled opsIn listOctets pieceOctets bodyOctets allOperators pieceTaken allTaken inOrder takenAfter ends takes narrow allWords tailWords ruleWords named isPiece pieceOf pieceAt piecesFrom recordsFrom zerosFrom isFramed isRule ruleAt wellFormed matchVerdict packetOk numbersOf someMatches pieceMatches ruleMatches compared masked joined later groups all any listMatches packet from-to flagged to stored lower inTurn rankFront rankCompared rankOf allBelow firstFailing bestBelow chosenIn
 cases-hold anyone = refl

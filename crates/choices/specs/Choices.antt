@@ -1,14 +1,15 @@
 -- The choices by which the three readings part. Everything else is one walk for all of them, so this table is the list of the places
--- where the Rust and the RFCs part (docs/DIFFERENCES.md goes by it); how a prefix is read, the sixth choice, stands in `prefixes`.
+-- where the Rust and the RFCs part (docs/DIFFERENCES.md goes by it); how a prefix is read, the seventh choice, stands in `prefixes`.
 --
 --                     plain               IPv4                IPv6
 --   boundOf           the input's end     the stated end      the stated end      "bounded by the end of the input, not by the stated end"
 --   lastType          13                  12                  13                  "1 to 13; in the standard IPv4 reading 1 to 12"
+--   codesIn           all four            by the type         by the type         "TCP flags (type 9) take values of one octet or two, DSCP (11) and fragments (12) of one"
 --   refusedIn         reserved bits       nothing             nothing             "0x08 in numeric, 0x0C in bitmask lists give InvalidOperator"
 --   clearedIn         (none are set)      recorded as 0       recorded as 0       "ignored and recorded as 0"
 --   firstIn           AND kept            recorded as 0       recorded as 0       "So is AND on a list's first operator"
 --
--- Document 01, "The plain reading" and "The standard reading"; RFC 8955, 4.2.1.1 and 4.2.1.2.
+-- Document 01, "The plain reading" and "The standard reading"; RFC 8955, 4.2.1.1, 4.2.1.2, 4.2.2.9, 4.2.2.11 and 4.2.2.12.
 use Prim.Native.Nat.{ℕ, _+_, _*_, _/_, _%_}
 use mathlib.Core.List.{[], _∷_}
 use mathlib.Core.Bool.{Bool, false}
@@ -32,6 +33,16 @@ abbrev pub lastType : Reading → ℕ
 lastType Plain = 13
 lastType Ipv4 = 12
 lastType Ipv6 = 13
+
+-- the table of widths by type, as a bound that a list's width codes stay below: codes 0 and 1 for TCP flags, 0 for DSCP and fragments, all four
+-- for the others
+abbrev pub codesBy : ℕ → ℕ
+codesBy type = pick (eqb type 9) 2 (pick (eqb type 11) 1 (pick (eqb type 12) 1 4))
+
+abbrev pub codesIn : Reading → ℕ → ℕ
+codesIn Plain type = 4
+codesIn Ipv4 type = codesBy type
+codesIn Ipv6 type = codesBy type
 
 unfoldable pub refusedIn : Reading → Kind → ℕ → Bool
 refusedIn Plain kind octet = reservedIn kind octet

@@ -1,7 +1,8 @@
 // The choices by which the three readings part, and what an operator octet is to each. One walk serves all readings: it asks here.
 ghost use mathlib.Core.Path.{_≡_};
-ghost use mathlib.Core.Bool.{Bool};
-ghost use Rattle.choices.specs.Choices.{boundOf, lastType, limitOf, firstIn, familyOf, standardOf, toldStandard};
+ghost use Prim.Native.Nat.{_<_};
+ghost use lib.Dec.{leb};
+ghost use Rattle.choices.specs.Choices.{boundOf, lastType, codesBy, codesIn, limitOf, firstIn, familyOf, standardOf, toldStandard};
 use operators::Kind;
 use refusals::Fault;
 use refusals::FlowSpecError;
@@ -33,6 +34,42 @@ pub fn last_type(reading: Reading) -> u8
         Reading::Plain => 13,
         Reading::Ipv4 => 12,
         Reading::Ipv6 => 13,
+    }
+}
+
+// The table of widths by type, as a bound that the codes stay below: TCP flags (9) take one octet or two, DSCP (11) and fragments (12) one.
+pub fn codes_by(tag: u8) -> u8
+    ensures { λ r. ⌜ r ≡ codesBy tag ⌝ }
+{
+    match tag {
+        9 => 2,
+        11 => 1,
+        12 => 1,
+        _ => 4,
+    }
+}
+
+// Whether a type does not take a width code. The types below 9 and lengths (10) take all, and each takes code 0: these are told at once. No entry
+// point.
+pub fn wide(tag: u8, code: u8) -> bool
+    requires { ⌜ code < 4 ⌝ }
+    ensures { λ r. ⌜ r ≡ leb (codesBy tag) code ⌝ }
+{
+    if (tag < 9) | (tag == 10) | (code == 0) {
+        return false;
+    }
+    codes_by(tag) <= code
+}
+
+// The same in a reading: the plain one takes all four codes everywhere. No entry point.
+pub fn too_wide(reading: Reading, tag: u8, code: u8) -> bool
+    requires { ⌜ code < 4 ⌝ }
+    ensures { λ r. ⌜ r ≡ leb (codesIn reading tag) code ⌝ }
+{
+    match reading {
+        Reading::Plain => false,
+        Reading::Ipv4 => wide(tag, code),
+        Reading::Ipv6 => wide(tag, code),
     }
 }
 

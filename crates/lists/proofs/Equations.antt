@@ -1,9 +1,9 @@
--- A list by equations, without the bound that the definition has: it is refused where the operator at its place is missing, cut or
+-- A list by equations, without the bound that the definition has: it is refused where the operator at its place is missing, too wide, cut or
 -- refused, ends after one with the end mark, and otherwise is one operator and the list after it. So are its operators. The bound is met
 -- here alone.
 use Prim.Native.Nat.{ℕ, zero, suc, _+_, _-_, _≤_, _<_}
 use mathlib.Core.Path.{_≡_, refl, sym, _∙_, ap, subst}
-use mathlib.Core.Bool.{true}
+use mathlib.Core.Bool.{true, false}
 use mathlib.Core.List.{List, [], _∷_}
 use borrow.Author.Tests.{le-leb, lt-leb, lt-ltb, le-ltb}
 use native.Mathlib.Omega.{arith}
@@ -14,13 +14,13 @@ use Rattle.ground.specs.Answers.{Answer, Refused, at-octet, refused, accepts, r
 use Rattle.ground.specs.Picks.{pick}
 use Rattle.ground.proofs.Answers.{never, same-refusal}
 use Rattle.ground.proofs.Cases.{by-cases}
-use Rattle.octets.specs.Widths.{widthOf}
+use Rattle.octets.specs.Widths.{codeIn, widthOf}
 use Rattle.choices.specs.declared.Reading.{Reading}
 use Rattle.choices.specs.Choices.{refusedIn}
 use Rattle.operators.specs.Ops.{kindOf, Op}
 use Rattle.lists.specs.declared.Tally.{Tally}
-use Rattle.lists.specs.Lists.{tally, plus, opAt, afterOp, operatorAt, turn, listFrom, listAt, isAccepted, opsTurn, opsFrom, opsAt}
-use Rattle.lists.proofs.Operators.{operator-missing, operator-cut, operator-refused, operator-refuses}
+use Rattle.lists.specs.Lists.{tally, plus, opAt, afterOp, tooWide, operatorAt, turn, listFrom, listAt, isAccepted, opsTurn, opsFrom, opsAt}
+use Rattle.lists.proofs.Operators.{operator-missing, operator-wide, operator-cut, operator-refused, operator-refuses}
 
 -- ---- the bound
 
@@ -75,15 +75,19 @@ module _ (r : Reading) (t : ℕ) (s : List ℕ) (at : ℕ) where
   pub list-stops : {f : Refused} → operatorAt r t s at ≡ declines f → listAt r t s at ≡ declines f
   list-stops e = by-operator e
 
-  -- no octet; an octet without all of its value; reserved bits that are refused
+  -- no octet; a width that the type does not take; an octet without all of its value; reserved bits that are refused
   pub list-missing : length s ≤ at → listAt r t s at ≡ refusesAt 1 [] (length s)
   list-missing h = by-operator (operator-missing r t s at h)
 
-  pub list-cut : at < length s → length s ≤ at + widthOf (getD s at 0) → listAt r t s at ≡ refusesAt 1 [] (length s)
-  list-cut h k = by-operator (operator-cut r t s at h k)
+  pub list-wide : at < length s → tooWide r t (getD s at 0) ≡ true → listAt r t s at ≡ refusesAt 6 (codeIn (getD s at 0) ∷ []) at
+  list-wide h e = by-operator (operator-wide r t s at h e)
 
-  pub list-refused : at + widthOf (getD s at 0) < length s → refusedIn r (kindOf t) (getD s at 0) ≡ true → listAt r t s at ≡ refusesAt 5 (getD s at 0 ∷ []) at
-  list-refused h e = by-operator (operator-refused r t s at h e)
+  module _ (n : tooWide r t (getD s at 0) ≡ false) where
+    pub list-cut : at < length s → length s ≤ at + widthOf (getD s at 0) → listAt r t s at ≡ refusesAt 1 [] (length s)
+    list-cut h k = by-operator (operator-cut r t s at n h k)
+
+    pub list-refused : at + widthOf (getD s at 0) < length s → refusedIn r (kindOf t) (getD s at 0) ≡ true → listAt r t s at ≡ refusesAt 5 (getD s at 0 ∷ []) at
+    list-refused h e = by-operator (operator-refused r t s at n h e)
 
   -- an operator that is taken: the last, or one more
   module _ {o : Op} (e : operatorAt r t s at ≡ accepts o) where
@@ -98,26 +102,28 @@ pub with-tally : {A : Type 0} (a : Answer Tally) → isAccepted a ≡ true → (
 with-tally (accepts l) e f = f l refl
 with-tally (declines g) e f = let z : _≡_ {A = ℕ} 0 1 = cc in absurd (omega arith)
 
--- what a list is refused by: 1 at the octets' end, or 5 at an octet that the reading refuses
+-- what a list is refused by: 1 at the octets' end, 6 at an octet whose width the type does not take, or 5 at one that the reading refuses
 pub plus-refuses : (n : ℕ) (a : Answer Tally) {f : Refused} → plus n a ≡ declines f → a ≡ declines f
 plus-refuses n (accepts l) e = never (sym e)
 plus-refuses n (declines g) e = e
 
-module _ (r : Reading) (t : ℕ) (s : List ℕ) (P : Refused → Type 0) (one : P (refused 1 [] (at-octet (length s))))
+module _ (r : Reading) (t : ℕ) (s : List ℕ) (from : ℕ) (P : Refused → Type 0) (one : P (refused 1 [] (at-octet (length s))))
+    (six : (i : ℕ) → from ≤ i → i < length s → tooWide r t (getD s i 0) ≡ true → P (refused 6 (codeIn (getD s i 0) ∷ []) (at-octet i)))
     (five : (i : ℕ) → refusedIn r (kindOf t) (getD s i 0) ≡ true → P (refused 5 (getD s i 0 ∷ []) (at-octet i))) where
-  by-answer : (at : ℕ) {f : Refused} → listAt r t s at ≡ declines f → ((o : Op) → listAt r t s (afterOp at o) ≡ declines f → P f) → (a : Answer Op) → operatorAt r t s at ≡ a → P f
-  by-answer at e ih (accepts o) i =
+  by-answer : (at : ℕ) → from ≤ at → {f : Refused} → listAt r t s at ≡ declines f
+      → ((o : Op) → from ≤ afterOp at o → listAt r t s (afterOp at o) ≡ declines f → P f) → (a : Answer Op) → operatorAt r t s at ≡ a → P f
+  by-answer at h e ih (accepts o) i =
       by-cases (decLt (o .octet) 128)
-      (λ h. ih o (plus-refuses 1 (listAt r t s (afterOp at o)) (sym (list-more r t s at i h) ∙ e)))
-      (λ h. never (sym e ∙ list-last r t s at i (omega (arith, h))))
-  by-answer at e ih (declines g) i = operator-refuses r t s at P one (five at) (i ∙ ap declines (same-refusal (sym (list-stops r t s at i) ∙ e)))
+      (λ l. ih o (omega arith) (plus-refuses 1 (listAt r t s (afterOp at o)) (sym (list-more r t s at i l) ∙ e)))
+      (λ l. never (sym e ∙ list-last r t s at i (omega (arith, l))))
+  by-answer at h e ih (declines g) i = operator-refuses r t s at P one (six at h) (five at) (i ∙ ap declines (same-refusal (sym (list-stops r t s at i) ∙ e)))
 
-  by-bound : (k at : ℕ) → length s ≤ at + k → {f : Refused} → listAt r t s at ≡ declines f → P f
-  by-bound zero at h e = subst P (same-refusal (sym (list-missing r t s at (omega arith)) ∙ e)) one
-  by-bound (suc k) at h e = by-answer at e (λ o i. by-bound k (afterOp at o) (omega arith) i) (operatorAt r t s at) refl
+  by-bound : (k at : ℕ) → from ≤ at → length s ≤ at + k → {f : Refused} → listAt r t s at ≡ declines f → P f
+  by-bound zero at l h e = subst P (same-refusal (sym (list-missing r t s at (omega arith)) ∙ e)) one
+  by-bound (suc k) at l h e = by-answer at l e (λ o m i. by-bound k (afterOp at o) m (omega arith) i) (operatorAt r t s at) refl
 
-  pub list-refuses : (at : ℕ) {f : Refused} → listAt r t s at ≡ declines f → P f
-  list-refuses at e = by-bound (length s) at (omega arith) e
+  pub list-refuses : {f : Refused} → listAt r t s from ≡ declines f → P f
+  list-refuses e = by-bound (length s) from (omega arith) (omega arith) e
 
 -- ---- and its operators
 

@@ -1,8 +1,8 @@
 -- What other crates may know of a list, in one place: they cite these laws and never the text of the definitions.
 -- one operator: the ways that it goes, what one that is taken is, and what it is refused by
-pub use Rattle.lists.proofs.Operators.{operator-missing, operator-cut, operator-refused, operator-taken, Taken, taken, operator-refuses}
--- a list goes by the operator at its place: none, a cut one, a refused one, the last, one more; what a list is refused by
-pub use Rattle.lists.proofs.Equations.{list-missing, list-cut, list-refused, list-stops, list-last, list-more, with-tally, list-refuses}
+pub use Rattle.lists.proofs.Operators.{operator-missing, operator-wide, operator-cut, operator-refused, operator-taken, Taken, taken, operator-refuses}
+-- a list goes by the operator at its place: none, one too wide, a cut one, a refused one, the last, one more; what a list is refused by
+pub use Rattle.lists.proofs.Equations.{list-missing, list-wide, list-cut, list-refused, list-stops, list-last, list-more, with-tally, list-refuses}
 -- its operators go so too, in whatever reading
 pub use Rattle.lists.proofs.Equations.{ops-missing, ops-last, ops-more}
 -- an accepted list is a chain of operators: their number is its count, it has two octets or more for each, and ends within the octets

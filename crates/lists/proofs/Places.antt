@@ -2,22 +2,22 @@
 -- up to its end.
 use Prim.Native.Nat.{ℕ, zero, suc, _+_, _≤_, _<_}
 use mathlib.Core.Path.{_≡_, refl, sym, _∙_, ap, subst}
-use mathlib.Core.Bool.{true}
+use mathlib.Core.Bool.{true, false}
 use mathlib.Core.List.{List, [], _∷_}
 use native.Mathlib.Omega.{arith}
 use native.Mathlib.Decide.{decLt}
 use lib.ListN.{length, getD}
 use Rattle.ground.specs.Answers.{Answer, Refused, at-octet, refused, accepts, refusesAt, declines}
 use Rattle.ground.proofs.Answers.{never, same-refusal}
-use Rattle.ground.proofs.Cases.{by-cases, by-test}
+use Rattle.ground.proofs.Cases.{by-cases}
 use Rattle.ground.proofs.Places.{Alike, alike-less, Breaks, breaks-at-end, breaks-here, breaks-on}
-use Rattle.octets.specs.Widths.{widthOf}
+use Rattle.octets.specs.Widths.{codeIn, widthOf}
 use Rattle.choices.specs.declared.Reading.{Reading}
 use Rattle.choices.specs.Choices.{refusedIn}
 use Rattle.operators.specs.Ops.{kindOf, Op}
 use Rattle.lists.specs.declared.Tally.{Tally}
-use Rattle.lists.specs.Lists.{tally, plus, opAt, afterOp, operatorAt, listAt}
-use Rattle.lists.proofs.Operators.{operator-missing, operator-cut, operator-refused, operator-taken, taken}
+use Rattle.lists.specs.Lists.{tally, plus, opAt, afterOp, tooWide, operatorAt, listAt}
+use Rattle.lists.proofs.Operators.{operator-missing, operator-wide, operator-cut, operator-refused, operator-taken, operator-ways, taken}
 use Rattle.lists.proofs.Equations.{list-stops, list-last, list-more, plus-refuses}
 use Rattle.lists.proofs.Chains.{Chain, last, more, list-chain, list-counts, chain-whole}
 
@@ -31,28 +31,38 @@ module _ (r : Reading) (t : ℕ) (s : List ℕ) where
     at-end : length s ≤ at → Broken (refused 1 [] (at-octet (length s)))
     at-end l = breaks-at-end more _ s at h (λ u a. operator-missing r t u at (omega (arith, a .long)))
 
-    in-value : at < length s → length s ≤ at + widthOf (getD s at 0) → Broken (refused 1 [] (at-octet (length s)))
-    in-value l k =
-        breaks-at-end more _ s at h
-        (λ u a. let w = ap widthOf (a .same at (omega arith)) in operator-cut r t u at (omega (arith, a .long)) (omega (arith, a .long)))
-
-    at-reserved : at + widthOf (getD s at 0) < length s → refusedIn r (kindOf t) (getD s at 0) ≡ true → Broken (refused 5 (getD s at 0 ∷ []) (at-octet at))
-    at-reserved l e =
-        breaks-here more _ s at h 5 (getD s at 0 ∷ []) (λ z. omega arith)
+    at-width : at < length s → tooWide r t (getD s at 0) ≡ true → Broken (refused 6 (codeIn (getD s at 0) ∷ []) (at-octet at))
+    at-width l e =
+        breaks-here more _ s at h 6 (codeIn (getD s at 0) ∷ []) (λ z. omega arith)
         (λ u a.
         let o = a .same at (omega arith) in
-        let w = ap widthOf o in
-        operator-refused r t u at (omega (arith, a .long)) (rw o e) ∙ ap (λ (x : ℕ). refusesAt 5 (x ∷ []) at) o)
+        operator-wide r t u at (omega (arith, a .long)) (rw o e) ∙ ap (λ (x : ℕ). refusesAt 6 (codeIn x ∷ []) at) o)
+
+    module _ (n : tooWide r t (getD s at 0) ≡ false) where
+      in-value : at < length s → length s ≤ at + widthOf (getD s at 0) → Broken (refused 1 [] (at-octet (length s)))
+      in-value l k =
+          breaks-at-end more _ s at h
+          (λ u a.
+          let o = a .same at (omega arith) in
+          let w = ap widthOf o in
+          operator-cut r t u at (rw o n) (omega (arith, a .long)) (omega (arith, a .long)))
+
+      at-reserved : at + widthOf (getD s at 0) < length s → refusedIn r (kindOf t) (getD s at 0) ≡ true → Broken (refused 5 (getD s at 0 ∷ []) (at-octet at))
+      at-reserved l e =
+          breaks-here more _ s at h 5 (getD s at 0 ∷ []) (λ z. omega arith)
+          (λ u a.
+          let o = a .same at (omega arith) in
+          let w = ap widthOf o in
+          operator-refused r t u at (rw o n) (omega (arith, a .long)) (rw o e) ∙ ap (λ (x : ℕ). refusesAt 5 (x ∷ []) at) o)
 
     pub operator-breaks : {f : Refused} → operatorAt r t s at ≡ declines f → Broken f
     operator-breaks e =
-        by-cases (decLt (at + widthOf (getD s at 0)) (length s))
-        (λ k. by-test (refusedIn r (kindOf t) (getD s at 0))
-        (λ g. subst Broken (same-refusal (sym (operator-refused r t s at k g) ∙ e)) (at-reserved k g))
-        (λ g. never (sym e ∙ operator-taken r t s at k g)))
-        (λ k. by-cases (decLt at (length s))
-        (λ l. subst Broken (same-refusal (sym (operator-cut r t s at l (omega (arith, k))) ∙ e)) (in-value l (omega (arith, k))))
-        (λ l. subst Broken (same-refusal (sym (operator-missing r t s at (omega (arith, l))) ∙ e)) (at-end (omega (arith, l)))))
+        operator-ways r t s at
+        (λ l. subst Broken (same-refusal (sym (operator-missing r t s at l) ∙ e)) (at-end l))
+        (λ l n. subst Broken (same-refusal (sym (operator-wide r t s at l n) ∙ e)) (at-width l n))
+        (λ n l k. subst Broken (same-refusal (sym (operator-cut r t s at n l k) ∙ e)) (in-value n l k))
+        (λ n k g. subst Broken (same-refusal (sym (operator-refused r t s at n k g) ∙ e)) (at-reserved n k g))
+        (λ n k g. never (sym e ∙ operator-taken r t s at n k g))
 
   -- one that is taken is taken of octets that agree up to its own, with the same octet
   module _ (at : ℕ) {o : Op} (e : operatorAt r t s at ≡ accepts o) (u : List ℕ) (a : Alike (at + 1) s u) where
@@ -61,7 +71,7 @@ module _ (r : Reading) (t : ℕ) (s : List ℕ) where
         let w = taken r t s at e in
         let i = a .same at (omega arith) in
         let j = ap widthOf i in
-        operator-taken r t u at (omega (arith, a .long, w .within)) (rw i (w .kept))
+        operator-taken r t u at (rw i (w .narrow)) (omega (arith, a .long, w .within)) (rw i (w .kept))
 
     octet-there : getD u at 0 ≡ o .octet
     octet-there = a .same at (omega arith) ∙ sym (ap (λ (x : Op). x .octet) (taken r t s at e .is))

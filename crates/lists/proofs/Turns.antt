@@ -9,8 +9,8 @@ use native.Mathlib.Omega.{arith}
 use native.Mathlib.Decide.{decLt}
 use lib.ListN.{length, getD, take, drop, set, length-set}
 use lib.Seq.{sets, set-set, set-comm, getD-set-same, getD-set-other}
-use Rattle.ground.specs.Answers.{accepts}
-use Rattle.ground.proofs.Cases.{by-cases, by-test}
+use Rattle.ground.specs.Answers.{Answer, accepts, declines}
+use Rattle.ground.proofs.Cases.{by-cases}
 use Rattle.octets.specs.Widths.{codeIn, widthOf}
 use Rattle.octets.specs.Spell.{valueOf}
 use Rattle.choices.specs.declared.Reading.{Reading}
@@ -18,9 +18,10 @@ use Rattle.operators.specs.declared.Kind.{Kind}
 use Rattle.choices.specs.Choices.{refusedIn, firstIn}
 use Rattle.operators.specs.Ops.{kindOf, clearedIn, Op, op, octetOf, numberOf}
 use Rattle.lists.specs.declared.Tally.{Tally}
-use Rattle.lists.specs.Lists.{tally, listAt, isAccepted, Accepted, opsAt, clearedOp, recordedOps}
+use Rattle.lists.specs.Lists.{tally, operatorAt, listAt, isAccepted, Accepted, opsAt, clearedOp, recordedOps}
 use Rattle.lists.specs.Runs.{lone, Places, marked, ends, left, Filling, Filled, Stored}
-use Rattle.lists.proofs.Equations.{list-refused, with-tally, ops-missing, ops-last, ops-more}
+use Rattle.lists.proofs.Operators.{taken}
+use Rattle.lists.proofs.Equations.{list-stops, with-tally, ops-missing, ops-last, ops-more}
 use Rattle.lists.proofs.Chains.{list-whole, list-counts}
 use Rattle.lists.proofs.Records.{recorded-numbers, numbers-cleared}
 use Rattle.lists.proofs.Runs.{lone-is, lone-done}
@@ -184,11 +185,12 @@ module _ (r : Reading) (t : ℕ) (s : List ℕ) (at : ℕ) (accepted : Accepted 
   pub whole-first : marked (opsAt s at) ≡ true
   whole-first = with-tally (listAt r t s at) accepted (λ l e. list-whole r t s at e .mark)
 
+  kept-by : (a : Answer Op) → operatorAt r t s at ≡ a → refusedIn r (kindOf t) (getD s at 0) ≡ false
+  kept-by (accepts o) e = taken r t s at e .kept
+  kept-by (declines f) e = absurd (false≢true (sym (ap isAccepted (list-stops r t s at e)) ∙ accepted))
+
   pub kept-first : refusedIn r (kindOf t) (getD s at 0) ≡ false
-  kept-first =
-      by-test (refusedIn r (kindOf t) (getD s at 0))
-      (λ e. absurd (false≢true (sym (ap isAccepted (list-refused r t s at (whole-in s at whole-first) e)) ∙ accepted)))
-      (λ e. e)
+  kept-first = kept-by (operatorAt r t s at) refl
 
   same-end : listAt r t s at ≡ accepts (ends s at 0)
   unfolding ends

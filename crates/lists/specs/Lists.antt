@@ -10,11 +10,11 @@ use lib.Dec.{ltb, leb}
 use Rattle.ground.specs.Answers.{Answer, accepts, refusesAt, declines}
 use Rattle.ground.specs.Picks.{pick}
 use Rattle.refusals.specs.Refusals.{refusal}
-use Rattle.octets.specs.Widths.{widthOf}
+use Rattle.octets.specs.Widths.{codeIn, widthOf}
 use Rattle.octets.specs.Spell.{valueOf}
 use Rattle.choices.specs.declared.Reading.{Reading}
 use Rattle.operators.specs.declared.Kind.{Kind}
-use Rattle.choices.specs.Choices.{refusedIn, firstIn}
+use Rattle.choices.specs.Choices.{codesIn, refusedIn, firstIn}
 use Rattle.operators.specs.Ops.{kindOf, clearedIn, Op, op}
 use Rattle.lists.specs.declared.Tally.{Tally}
 use Rattle.lists.specs.declared.Listed.{Listed}
@@ -52,9 +52,15 @@ valueAt reading type s at =
     pick (lacksValue s at) (refusesAt 1 [] (length s))
     (pick (refusedIn reading (kindOf type) (getD s at 0)) (refusesAt 5 (getD s at 0 ∷ []) at) (accepts (opAt s at)))
 
--- first its octet, then its value
+-- its octet has a width code that the type does not take
+abbrev pub tooWide : Reading → ℕ → ℕ → Bool
+tooWide reading type octet = leb (codesIn reading type) (codeIn octet)
+
+-- first its octet, then its width, which is refused at the operator octet "before its value is looked for", then its value
 unfoldable pub operatorAt : Reading → ℕ → List ℕ → ℕ → Answer Op
-operatorAt reading type s at = pick (lacksOctet s at) (refusesAt 1 [] (length s)) (valueAt reading type s at)
+operatorAt reading type s at =
+    pick (lacksOctet s at) (refusesAt 1 [] (length s))
+    (pick (tooWide reading type (getD s at 0)) (refusesAt 6 (codeIn (getD s at 0) ∷ []) at) (valueAt reading type s at))
 
 -- ---- a list of them
 

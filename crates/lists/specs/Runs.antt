@@ -12,12 +12,11 @@ use Rattle.ground.specs.Picks.{pick}
 use Rattle.octets.specs.Widths.{codeIn, widthOf}
 use Rattle.choices.specs.declared.Reading.{Reading}
 use Rattle.operators.specs.declared.Kind.{Kind}
-use Rattle.choices.specs.Choices.{limitOf}
+use Rattle.choices.specs.Choices.{codesIn, limitOf}
 use Rattle.operators.specs.Ops.{kindOf, Op, octetOf, numberOf}
 use Rattle.lists.specs.declared.Tally.{Tally}
-use Rattle.lists.specs.declared.Listed.{Listed}
 use Rattle.lists.specs.declared.Ran.{Ran}
-use Rattle.lists.specs.Lists.{tally, toldList, plus, listAt, opsAt, clearedOp}
+use Rattle.lists.specs.Lists.{tally, plus, listAt, opsAt, clearedOp}
 
 -- ---- the first pass
 
@@ -34,10 +33,15 @@ pub record Begun (s : List ℕ) (at n : ℕ) : Type 0 where
 abbrev pub reached : Reading → ℕ → List ℕ → Ran → Answer Tally
 reached reading type s r = pick (r .done) (accepts (tally (r .count) (r .at))) (rest reading type s (r .at) (r .count))
 
--- a run from a place on is so many steps: what is left there is what is left where it stopped, whatever reading and type have the bound
--- that the run took
-pub record Passed (bound : ℕ) (s : List ℕ) (at n : ℕ) (r : Ran) : Type 0 where
-  pub same : (reading : Reading) (type : ℕ) → bound ≡ limitOf reading (kindOf type) → rest reading type s at n ≡ reached reading type s r
+-- a reading and a type that take a width code, and have the bound on an octet's low four bits
+pub record Takes (code bound : ℕ) (reading : Reading) (type : ℕ) : Type 0 where
+  pub width : code < codesIn reading type
+  pub limit : bound ≡ limitOf reading (kindOf type)
+
+-- a run from a place on is so many steps: what is left there is what is left where it stopped, whatever reading and type take the run's code and
+-- have its bound
+pub record Passed (code bound : ℕ) (s : List ℕ) (at n : ℕ) (r : Ran) : Type 0 where
+  pub same : (reading : Reading) (type : ℕ) → Takes code bound reading type → rest reading type s at n ≡ reached reading type s r
   pub on : at ≤ r .at
   pub place : r .count ≤ r .at
   pub within : r .at ≤ length s
@@ -49,10 +53,6 @@ lone octet = leb 128 octet && eqb (codeIn octet) 0
 -- such an operator is at a place and whole, and has no bit that any reading reserves: it is the list
 unfoldable pub aloneAt : List ℕ → ℕ → Bool
 aloneAt s at = pick (ltb (length s - at) 2) false (lone (getD s at 0) && ltb (getD s at 0 % 16) 4)
-
--- the answer for the list at a place, whatever reading and type have the bound
-abbrev pub Measured : ℕ → List ℕ → ℕ → Listed → Type 0
-Measured bound s at r = (reading : Reading) (type : ℕ) → bound ≡ limitOf reading (kindOf type) → toldList r ≡ listAt reading type s at
 
 -- ---- the second pass: no octet is tested again, so it goes by the operators that stand there, in whatever reading they were accepted
 

@@ -9,10 +9,10 @@ ghost use lib.ListN.{length, getD};
 ghost use lib.Seq.{sets};
 ghost use Rattle.ground.specs.Answers.{accepts};
 ghost use Rattle.octets.specs.Widths.{widths, codeIn};
-ghost use Rattle.choices.specs.Choices.{refusedIn, firstIn};
+ghost use Rattle.choices.specs.Choices.{limitOf, refusedIn, firstIn};
 ghost use Rattle.operators.specs.Ops.{kindOf, clearedIn, octetOf, numberOf};
 ghost use Rattle.lists.specs.Lists.{toldList, listAt, opsAt, recordedOps, Accepted};
-ghost use Rattle.lists.specs.Runs.{Begun, Passed, aloneAt, Measured, Places, Filling, FilledBy, Stored};
+ghost use Rattle.lists.specs.Runs.{Begun, Passed, aloneAt, Places, Filling, FilledBy, Stored};
 use choices::Reading;
 use octets::Cursor;
 use operators::Kind;
@@ -43,7 +43,7 @@ fn measure_run(s: &[u8], at: usize, n: usize, code: u8, w: usize, bound: u8) -> 
     requires { ⌜ Begun (now s) at n ⌝ }
     requires { ⌜ code < 4 ⌝ }
     requires { ⌜ w ≡ getD widths code 0 ⌝ }
-    ensures { λ r. ⌜ Passed bound (now (s .entry)) at n r ⌝ }
+    ensures { λ r. ⌜ Passed code bound (now (s .entry)) at n r ⌝ }
 {
     let mut i = at;
     let mut c = n;
@@ -95,9 +95,10 @@ pub fn alone(s: &[u8], at: usize) -> bool
     (128 <= s[at]) & (s[at] / 16 % 4 == 0) & (s[at] % 16 < 4)
 }
 
-// The list at a place, by the bound on its operators' low four bits.
-fn measure_on(s: &[u8], at: usize, bound: u8) -> Listed
-    ensures { λ r. ⌜ Measured bound (now (s .entry)) at r ⌝ }
+// The list at a place, in a component of the type `tag`. Its width is tested once a run; `bound` bounds its operators' low four bits.
+fn measure_on(s: &[u8], at: usize, reading: Reading, tag: u8, bound: u8) -> Listed
+    requires { ⌜ bound ≡ limitOf reading (kindOf tag) ⌝ }
+    ensures { λ r. ⌜ toldList r ≡ listAt reading tag (now (s .entry)) at ⌝ }
 {
     let mut i = at;
     let mut n: usize = 0;
@@ -109,7 +110,14 @@ fn measure_on(s: &[u8], at: usize, bound: u8) -> Listed
             });
         }
         let octet = s[i];
-        let w = octets::shifted(octet / 16 % 4);
+        let code = octet / 16 % 4;
+        if choices::too_wide(reading, tag, code) {
+            return Listed::Refused(Fault {
+                error: FlowSpecError::InvalidValueLength(code),
+                place: Place::Octet(i),
+            });
+        }
+        let w = octets::shifted(code);
         let from = i + 1;
         if s.len() - from < w {
             return Listed::Refused(Fault {
@@ -131,7 +139,7 @@ fn measure_on(s: &[u8], at: usize, bound: u8) -> Listed
                 next: Cursor { at: i },
             };
         }
-        let r = measure_run(s, i, n, octet / 16 % 4, w, bound);
+        let r = measure_run(s, i, n, code, w, bound);
         i = r.at;
         n = r.count;
         if r.done {
@@ -160,7 +168,13 @@ pub fn measure(c: Cursor, s: &[u8], reading: Reading, tag: u8) -> Listed
             next: Cursor { at: at + 2 },
         };
     }
-    measure_on(s, at, choices::limit(reading, operators::kind_of(tag)))
+    measure_on(
+        s,
+        at,
+        reading,
+        tag,
+        choices::limit(reading, operators::kind_of(tag)),
+    )
 }
 
 // On over the operators of one width, each to the lent lists, up to the list's end or the first of another width.

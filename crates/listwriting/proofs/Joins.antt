@@ -1,23 +1,26 @@
 -- What is joined over operators: one more, and 16 that are alike; and one operator alone. That no bit past its width is set in a value is that the value fits, and bits joined
 -- are below a power of two if each is.
 use Prim.Native.Nat.{ℕ, zero, suc, _+_, _-_, _*_, _/_, _%_, _^_, _≤_, _<_}
-use mathlib.Core.Path.{_≡_, refl, sym, _∙_, ap, ap₂}
+use mathlib.Core.Path.{_≡_, refl, sym, _∙_, ap, ap₂, subst}
 use mathlib.Core.List.{List, [], _∷_}
 use mathlib.Core.Bool.{Bool, true, false, not, _&&_, _||_, and-true, and-false, false≢true}
 use mathlib.Core.Logic.{⊎-elim}
 use native.Mathlib.Nat.{div-add-mod', div-eq-of-lt, mod-eq-of-lt, mod-lt, zero-mul}
 use native.Mathlib.Omega.{arith}
-use borrow.Author.Tests.{eq-eqb, ne-eqb, le-leb, lt-leb, lt-ltb, le-ltb, eqb-true, eqb-false, ltb-true, ltb-false, not-true, not-false}
+use borrow.Author.Tests.{eq-eqb, ne-eqb, le-leb, lt-leb, lt-ltb, le-ltb, leb-true, leb-false, eqb-true, eqb-false, ltb-true, ltb-false, not-true, not-false}
 use lib.Bits.{bitOr, bitAnd, or-add-and, and-le-l, and-le-r, or-lt, and-high, and-zero-r}
 use lib.Dec.{eqb, leb, ltb}
 use lib.ListN.{getD}
 use lib.Pow.{pow-pos}
 use Rattle.ground.proofs.Cases.{by-test, both, lt-or-le}
+use Rattle.ground.specs.Picks.{pick}
 use Rattle.octets.specs.Widths.{codeIn, widths, widthOf}
 use Rattle.octets.proofs.Widths.{width-range, width-most}
+use Rattle.choices.specs.Choices.{codesBy}
+use Rattle.choices.proofs.WidthTable.{power}
 use Rattle.operators.specs.Ops.{op}
 use Rattle.listwriting.specs.declared.Sum.{Sum}
-use Rattle.listwriting.specs.Lists.{sizeIn, fitsIn, ends, takes, oneSize}
+use Rattle.listwriting.specs.Lists.{sizeIn, fitsIn, ends, takes, narrow, oneSize}
 use Rattle.listwriting.specs.Runs.{beyond, Alike, Joined, sum, nothing, sound, rest, Adds}
 use Rattle.listwriting.proofs.Ends.{fitsAt, rest-last, rest-more, right-each}
 use Rattle.listwriting.proofs.Sizes.{size-more, size-none}
@@ -268,11 +271,22 @@ module _ (o v m : ℕ) (octet : o < 256) (word : v < 2 ^ 64) (is : m ≡ getD be
   neither true b = refl
   neither false b = refl
 
-  pub alone-not : not (eqb (o / 64) 2) || not (eqb (bitAnd v m) 0) ≡ true → 0 ≡ oneSize o v
-  alone-not e = rw (alone-takes, not-true (eqb (o / 64) 2 && eqb (bitAnd v m) 0) (sym (neither (eqb (o / 64) 2) (eqb (bitAnd v m) 0)) ∙ e))
+  pub alone-not : (t : ℕ) → not (eqb (o / 64) 2) || not (eqb (bitAnd v m) 0) ≡ true → 0 ≡ oneSize t o v
+  alone-not t e = rw (alone-takes, not-true (eqb (o / 64) 2 && eqb (bitAnd v m) 0) (sym (neither (eqb (o / 64) 2) (eqb (bitAnd v m) 0)) ∙ e))
 
-  pub alone-is : not (eqb (o / 64) 2) || not (eqb (bitAnd v m) 0) ≡ false → 2 + widthOf o ≡ oneSize o v
-  alone-is e = rw (alone-takes, not-false (eqb (o / 64) 2 && eqb (bitAnd v m) 0) (sym (neither (eqb (o / 64) 2) (eqb (bitAnd v m) 0)) ∙ e))
+  -- and what the type says of its width
+  module _ (t : ℕ) (e : not (eqb (o / 64) 2) || not (eqb (bitAnd v m) 0) ≡ false) where
+    alone-is : oneSize t o v ≡ pick (ltb (codeIn o) (codesBy t)) (2 + widthOf o) 0
+    unfolding narrow
+    alone-is =
+        rw (alone-takes, not-false (eqb (o / 64) 2 && eqb (bitAnd v m) 0) (sym (neither (eqb (o / 64) 2) (eqb (bitAnd v m) 0)) ∙ e))
+        (ap (λ b. pick b (2 + widthOf o) 0) (and-true (ltb (codeIn o) (codesBy t))))
+
+    pub alone-wide : leb (codesBy t) (codeIn o) ≡ true → 0 ≡ oneSize t o v
+    alone-wide w = sym (alone-is ∙ rw (le-ltb (codeIn o) (codesBy t) (leb-true (codesBy t) (codeIn o) w)))
+
+    pub alone-narrow : leb (codesBy t) (codeIn o) ≡ false → 2 + widthOf o ≡ oneSize t o v
+    alone-narrow w = sym (alone-is ∙ rw (lt-ltb (codeIn o) (codesBy t) (leb-false (codesBy t) (codeIn o) w)))
 
 -- two operators: neither of the first's two highest bits is set, the second's highest is, and no bit past a width
 unmarked : (o : ℕ) → o < 256 → eqb (o / 64) 0 ≡ (not (eqb (o % 128 / 64) 1) && not (leb 128 o))
@@ -303,3 +317,22 @@ module _ (o v m : ℕ) (octet : o < 256) (word : v < 2 ^ 64) (is : m ≡ getD be
   pair-takes =
       ap₂ (λ x y. (x && leb 128 p) && y) (unmarked o octet) (or-none (bitAnd v m) (bitAnd w n) ∙ ap₂ _&&_ (alone-fits o v m octet word is) (alone-fits p w n octet₂ word₂ is₂))
       ∙ in-turn (not (eqb (o % 128 / 64) 1)) (fitsIn o v) (not (leb 128 o)) (fitsIn p w) (leb 128 p)
+
+-- their widths, by the bits of both codes
+not-leb : (a b : ℕ) → leb a b ≡ not (ltb b a)
+not-leb a b =
+    by-test (leb a b)
+    (λ e. rw (e, le-ltb b a (leb-true a b e)))
+    (λ e. rw (e, lt-ltb b a (leb-false a b e)))
+
+pub pair-wide : (t o p v w : ℕ) → leb (codesBy t) (bitOr (codeIn o) (codeIn p)) ≡ not (narrow (codesBy t) (op o v ∷ op p w ∷ []))
+unfolding narrow
+pair-wide t o p v w =
+    let c = codesBy t in
+    let q = power t in
+    let e : ltb (bitOr (codeIn o) (codeIn p)) c ≡ (ltb (codeIn o) c && ltb (codeIn p) c) =
+    subst (λ (n : ℕ). ltb (bitOr (codeIn o) (codeIn p)) n ≡ (ltb (codeIn o) n && ltb (codeIn p) n)) (sym (q .is)) (or-below (q .exponent) (codeIn o) (codeIn p)) in
+    not-leb c (bitOr (codeIn o) (codeIn p)) ∙ ap not (e ∙ ap (λ b. ltb (codeIn o) c && b) (sym (and-true (ltb (codeIn p) c))))
+
+pub code-join : (o p : ℕ) → bitOr (codeIn o) (codeIn p) < 4
+code-join o p = or-lt 2 (codeIn o) (codeIn p) (omega arith) (omega arith)

@@ -1,13 +1,14 @@
 -- What callers may use of `takes` and `ends`: each way that the tests of a list go, and what a list that is taken shows.
-use Prim.Native.Nat.{_/_, _%_}
+use Prim.Native.Nat.{ℕ, _/_, _%_}
 use mathlib.Core.Path.{_≡_, refl}
 use mathlib.Core.Bool.{true, false, not, _&&_, false≢true}
 use mathlib.Core.List.{List, [], _∷_}
 use borrow.Author.Tests.{ne-eqb, eqb-false, not-true}
-use lib.Dec.{eqb, leb}
+use lib.Dec.{eqb, leb, ltb}
 use Rattle.ground.proofs.Cases.{both}
+use Rattle.octets.specs.Widths.{codeIn}
 use Rattle.operators.specs.Ops.{Op}
-use Rattle.listwriting.specs.Lists.{fitsIn, ends, takes}
+use Rattle.listwriting.specs.Lists.{fitsIn, ends, takes, narrow}
 
 pub ends-none : ends [] ≡ false
 unfolding ends
@@ -38,3 +39,12 @@ pub taken-ends : (os : List Op) → takes os ≡ true → ends os ≡ true
 unfolding takes
 taken-ends [] e = absurd (false≢true e)
 taken-ends (o ∷ os) e = both (not (eqb (o .octet % 128 / 64) 1)) (ends (o ∷ os)) e .1
+
+-- width codes below a bound: of none, and of a first one and others
+pub narrow-none : (codes : ℕ) → narrow codes [] ≡ true
+unfolding narrow
+narrow-none codes = refl
+
+pub narrow-first : (codes : ℕ) (o : Op) (os : List Op) → narrow codes (o ∷ os) ≡ (ltb (codeIn (o .octet)) codes && narrow codes os)
+unfolding narrow
+narrow-first codes o os = refl

@@ -1,8 +1,8 @@
 -- What the loops promise each other: where the writing of a list stands, and what was joined of one that is measured. No public promise rests on this but through `Lists`.
-use Prim.Native.Nat.{ℕ, _+_, _-_, _*_, _^_, _≤_, _<_}
+use Prim.Native.Nat.{ℕ, zero, suc, _+_, _-_, _*_, _^_, _≤_, _<_}
 use mathlib.Core.Path.{_≡_}
 use mathlib.Core.List.{List, [], _∷_}
-use mathlib.Core.Bool.{Bool, _&&_}
+use mathlib.Core.Bool.{Bool, true, _&&_}
 use lib.Dec.{eqb, ltb}
 use lib.ListN.{length, getD}
 use lib.Seq.{sets}
@@ -23,6 +23,11 @@ pub record Put (kind : Kind) (values octets : List ℕ) (from to at : ℕ) (out�
   pub long : length out ≡ length out₀
   pub place : p + sizeIn octets q (to - q) ≡ at + sizeIn octets from (to - from)
   pub stored : sets out p (between kind values octets q to) ≡ sets out₀ at (between kind values octets from to)
+
+-- the width codes of n operators from a place on are below a bound (`narrow-is` in proofs/ has the law)
+unfoldable pub narrowIn : ℕ → List ℕ → ℕ → ℕ → Bool
+narrowIn codes octets at zero = true
+narrowIn codes octets at (suc n) = ltb (codeIn (getD octets at 0)) codes && narrowIn codes octets (at + 1) n
 
 -- by the width's code: the bits that no value of the width has
 abbrev pub beyond : List ℕ

@@ -11,7 +11,7 @@ ghost use lib.Seq.{sets};
 ghost use Rattle.octets.specs.Widths.{widths, codeIn};
 ghost use Rattle.operators.specs.Ops.{opsIn, listOctets};
 ghost use Rattle.listwriting.specs.Lists.{sizeIn, oneSize, pairSize, takenSize};
-ghost use Rattle.listwriting.specs.Runs.{beyond, Put, Alike, Joined, Adds, nothing};
+ghost use Rattle.listwriting.specs.Runs.{narrowIn, beyond, Put, Alike, Joined, Adds, nothing};
 use operators::Kind;
 
 // By the width's code: the bits that no value of the width has, and the octets that an operator of the width takes.
@@ -186,36 +186,64 @@ fn add_some(values: &[u64], octets: &[u8], from: usize, to: usize) -> Sum
     add_all(values, octets, from, to)
 }
 
-// In the standard writing: the octets of a component that is a type and one operator, 0 where the list is not taken.
-pub fn one_size(octet: u8, value: u64) -> usize
-    ensures { λ r. ⌜ r ≡ oneSize octet value ⌝ }
+// In the standard writing: the octets of a component that is a type and one operator, 0 where the list is not taken. A
+// width that the type `tag` does not take is tested last: it is rare.
+pub fn one_size(tag: u8, octet: u8, value: u64) -> usize
+    ensures { λ r. ⌜ r ≡ oneSize tag octet value ⌝ }
 {
     let code = octet / 16 % 4;
     if (octet / 64 != 2) | (value & bits_beyond(code) != 0) {
+        return 0;
+    }
+    if choices::wide(tag, code) {
         return 0;
     }
     2 + octets::stride(code)
 }
 
 // The same of a type and two operators, which a range of numbers is.
-pub fn pair_size(octet: u8, value: u64, octet2: u8, value2: u64) -> usize
-    ensures { λ r. ⌜ r ≡ pairSize octet value octet2 value2 ⌝ }
+pub fn pair_size(tag: u8, octet: u8, value: u64, octet2: u8, value2: u64) -> usize
+    ensures { λ r. ⌜ r ≡ pairSize tag octet value octet2 value2 ⌝ }
 {
     let code = octet / 16 % 4;
     let code2 = octet2 / 16 % 4;
     let over = (value & bits_beyond(code)) | (value2 & bits_beyond(code2));
     if (octet / 64 == 0) & (128 <= octet2) & (over == 0) {
+        if choices::wide(tag, code | code2) {
+            return 0;
+        }
         return 3 + octets::stride(code) + octets::stride(code2);
     }
     0
 }
 
+// Whether the width codes of the operators at so many places stay below a bound. All are below 4.
+fn narrow(codes: u8, octets: &[u8], from: usize, count: usize) -> bool
+    requires { ⌜ from + count ≤ length (now octets) ⌝ }
+    ensures { λ r. ⌜ r ≡ narrowIn codes (now (octets .entry)) from count ⌝ }
+{
+    if 4 <= codes {
+        return true;
+    }
+    let to = from + count;
+    let mut all = true;
+    let mut q = from;
+    while q < to {
+        all = all & (octets[q] / 16 % 4 < codes);
+        q += 1;
+    }
+    all
+}
+
 // In the standard writing: the octets of the operators at so many places, 0 where the list is not taken. No entry point.
-pub fn taken_size(values: &[u64], octets: &[u8], from: usize, count: usize) -> usize
+pub fn taken_size(tag: u8, values: &[u64], octets: &[u8], from: usize, count: usize) -> usize
     requires { ⌜ (from + count ≤ length (now values)) × (from + count ≤ length (now octets)) × (0 < count) × (count ≤ 2047) ⌝ }
-    ensures { λ r. ⌜ r ≡ takenSize (now (values .entry)) (now (octets .entry)) from count ⌝ }
+    ensures { λ r. ⌜ r ≡ takenSize tag (now (values .entry)) (now (octets .entry)) from count ⌝ }
 {
     if octets[from] % 128 / 64 == 1 {
+        return 0;
+    }
+    if !narrow(choices::codes_by(tag), octets, from, count) {
         return 0;
     }
     let last = from + count - 1;

@@ -12,14 +12,14 @@ use Rattle.ground.proofs.Answers.{never}
 use Rattle.ground.proofs.Cases.{by-test, both}
 use Rattle.choices.specs.declared.Reading.{Reading}
 use Rattle.choices.specs.declared.Reading.the-variants.{Plain, Ipv4, Ipv6}
-use Rattle.choices.specs.Choices.{lastType, familyOf, standardOf}
+use Rattle.choices.specs.Choices.{codesBy, codesIn, lastType, familyOf, standardOf}
 use Rattle.operators.specs.Ops.{kindOf, Op, opsIn, listOctets}
 use Rattle.rules.specs.declared.NetworkPrefix.{NetworkPrefix}
 use Rattle.stored.specs.declared.Piece.{Piece}
 use Rattle.stored.specs.declared.Piece.the-variants.{Prefix, Operators, NoRecord}
 use Rattle.stored.specs.Pieces.{typeOf, isRecord, pieceAt}
 use Rattle.stored.specs.Stored.{piecesFrom, recordsFrom}
-use Rattle.listwriting.specs.Lists.{takes}
+use Rattle.listwriting.specs.Lists.{takes, narrow, takesIn}
 use Rattle.listwriting.proofs.Laws.{takes-none}
 use Rattle.measuring.specs.Bodies.{Lent, opsOf, prefixOctets, pieceOctets, bodyOctets}
 use Rattle.measuring.specs.Grounds.{operatorsIn, allOperators, insideOf, prefixTaken, listTaken, pieceTaken, allTaken, risesIn, inOrder, takenAfter, bodyTaken, bodyOf}
@@ -35,6 +35,12 @@ pub not-plain : (w : Reading) → (w ≡ Plain → ⊥) → Standard w
 not-plain Plain h = h refl
 not-plain Ipv4 h = tt
 not-plain Ipv6 h = tt
+
+-- all of them take the widths of one table
+pub standard-codes : (w : Reading) → Standard w → (t : ℕ) → codesIn w t ≡ codesBy t
+standard-codes Plain u t = absurd u
+standard-codes Ipv4 u t = refl
+standard-codes Ipv6 u t = refl
 
 -- and the families that name them
 pub standard-own : (w : Reading) → Standard w → standardOf (familyOf w) ≡ accepts w
@@ -78,7 +84,7 @@ module _ (w : Reading) (l : Lent) where
   unfolding pieceTaken
   taken-prefix t p = refl
 
-  pub taken-list : (t start n : ℕ) → pieceTaken w l (Operators t start n) ≡ (insideOf l start n && listTaken w (opsOf l start n))
+  pub taken-list : (t start n : ℕ) → pieceTaken w l (Operators t start n) ≡ (insideOf l start n && listTaken w t (opsOf l start n))
   unfolding pieceTaken
   taken-list t start n = refl
 
@@ -94,36 +100,38 @@ module _ (w : Reading) (l : Lent) where
   taken-record NoRecord e = absurd (false≢true e)
 
 -- a list in a standard writing: it names some operators, which lie within both lent lists
-pub standard-list : (w : Reading) → Standard w → (os : List Op) → listTaken w os ≡ takes os
-standard-list Plain u os = absurd u
-standard-list Ipv4 u os = refl
-standard-list Ipv6 u os = refl
+pub standard-list : (w : Reading) → Standard w → (t : ℕ) (os : List Op) → listTaken w t os ≡ takesIn t os
+standard-list Plain u t os = absurd u
+standard-list Ipv4 u t os = refl
+standard-list Ipv6 u t os = refl
 
-pub record Listed (l : Lent) (start n : ℕ) : Type 0 where
+pub record Listed (t : ℕ) (l : Lent) (start n : ℕ) : Type 0 where
   pub some : 0 < n
   pub values : l .first + start + n ≤ length (l .values)
   pub octets : l .first + start + n ≤ length (l .octets)
   pub taken : takes (opsOf l start n) ≡ true
+  pub narrows : narrow (codesBy t) (opsOf l start n) ≡ true
 
 module _ (w : Reading) (u : Standard w) (l : Lent) where
-  listed : (start n : ℕ) → insideOf l start n ≡ true → takes (opsOf l start n) ≡ true → Listed l start n
+  listed : (t start n : ℕ) → insideOf l start n ≡ true → takes (opsOf l start n) ≡ true → narrow (codesBy t) (opsOf l start n) ≡ true → Listed t l start n
   unfolding opsIn
-  listed start zero i e = absurd (false≢true (sym takes-none ∙ e))
-  listed start (suc n) i e = let b = inside-both l start (suc n) (λ z. omega arith) i in record { some = omega arith; values = b .0; octets = b .1; taken = e }
+  listed t start zero i e c = absurd (false≢true (sym takes-none ∙ e))
+  listed t start (suc n) i e c = let b = inside-both l start (suc n) (λ z. omega arith) i in record { some = omega arith; values = b .0; octets = b .1; taken = e; narrows = c }
 
-  pub list-shows : (t start n : ℕ) → pieceTaken w l (Operators t start n) ≡ true → Listed l start n
+  pub list-shows : (t start n : ℕ) → pieceTaken w l (Operators t start n) ≡ true → Listed t l start n
   list-shows t start n e =
-      let b = both (insideOf l start n) (listTaken w (opsOf l start n)) (sym (taken-list w l t start n) ∙ e) in
-      listed start n (b .0) (sym (standard-list w u (opsOf l start n)) ∙ b .1)
+      let b = both (insideOf l start n) (listTaken w t (opsOf l start n)) (sym (taken-list w l t start n) ∙ e) in
+      let c = both (takes (opsOf l start n)) (narrow (codesBy t) (opsOf l start n)) (sym (standard-list w u t (opsOf l start n)) ∙ b .1) in
+      listed t start n (b .0) (c .0) (c .1)
 
   or-right : (a : Bool) {b : Bool} → b ≡ true → (a || b) ≡ true
   or-right true e = refl
   or-right false e = e
 
-  pub list-needs : (t start n : ℕ) → Listed l start n → pieceTaken w l (Operators t start n) ≡ true
+  pub list-needs : (t start n : ℕ) → Listed t l start n → pieceTaken w l (Operators t start n) ≡ true
   list-needs t start n h =
       let i : insideOf l start n ≡ true = or-right (eqb n 0) (ap₂ _&&_ (le-leb _ _ (h .values)) (le-leb _ _ (h .octets))) in
-      taken-list w l t start n ∙ ap₂ _&&_ i (standard-list w u (opsOf l start n) ∙ h .taken)
+      taken-list w l t start n ∙ ap₂ _&&_ i (standard-list w u t (opsOf l start n) ∙ ap₂ _&&_ (h .taken) (h .narrows))
 
 -- a type after another in a standard writing
 pub rises-shows : (w : Reading) → Standard w → (previous t : ℕ) → risesIn w previous t ≡ true → (previous < t) × (t ≤ lastType w)

@@ -21,7 +21,7 @@ use Rattle.prefixes.proofs.Addresses.{none-before}
 use Rattle.prefixes.proofs.Laws.{fits-le}
 use Rattle.prefixwriting.specs.Writings.{octetsInPlain, octetsInStandard, standardRange}
 use Rattle.prefixwriting.proofs.Puts.{length-plain, length-standard, valid-ranged}
-use Rattle.listwriting.specs.Lists.{sizeIn, takes, takenSize, oneSize, pairSize}
+use Rattle.listwriting.specs.Lists.{sizeIn, takesIn, takenSize, oneSize, pairSize}
 use Rattle.listwriting.proofs.Laws.{takes-none}
 use Rattle.listwriting.proofs.Sizes.{length-list, size-least, size-most, size-one, ops-one, size-two, ops-two}
 use Rattle.stored.specs.declared.Piece.{Piece}
@@ -137,31 +137,31 @@ nested false b c n = refl
 
 module _ (w : Reading) (l : Lent) (left previous t start n : ℕ) where
   weight-by : weightOf w l left previous (Operators t start n)
-      ≡ pick (leb n left && risesIn w previous t) (pick (insideOf l start n && listTaken w (opsOf l start n)) (1 + sizeIn (l .octets) (l .first + start) n) 0) 0
+      ≡ pick (leb n left && risesIn w previous t) (pick (insideOf l start n && listTaken w t (opsOf l start n)) (1 + sizeIn (l .octets) (l .first + start) n) 0) 0
   unfolding weightOf fitsAfter pieceTaken
   weight-by =
-      ap (λ (k : ℕ). pick (leb n left && ((insideOf l start n && listTaken w (opsOf l start n)) && risesIn w previous t)) k 0) (length-operators w l t start n)
-      ∙ nested (leb n left) (insideOf l start n && listTaken w (opsOf l start n)) (risesIn w previous t) (1 + sizeIn (l .octets) (l .first + start) n)
+      ap (λ (k : ℕ). pick (leb n left && ((insideOf l start n && listTaken w t (opsOf l start n)) && risesIn w previous t)) k 0) (length-operators w l t start n)
+      ∙ nested (leb n left) (insideOf l start n && listTaken w t (opsOf l start n)) (risesIn w previous t) (1 + sizeIn (l .octets) (l .first + start) n)
 
   -- a list whose type may not stand, or that has too many operators
   pub weight-list-not : leb n left && risesIn w previous t ≡ false → weightOf w l left previous (Operators t start n) ≡ 0
   weight-list-not e = weight-by ∙ rw e
 
-  pub weight-list : Standard w → weightOf w l left previous (Operators t start n) ≡ pick (leb n left && risesIn w previous t) (standardWeight l start n) 0
+  pub weight-list : Standard w → weightOf w l left previous (Operators t start n) ≡ pick (leb n left && risesIn w previous t) (standardWeight t l start n) 0
   unfolding standardWeight
   weight-list u =
       weight-by
       ∙ ap (λ b. pick (leb n left && risesIn w previous t) (pick (insideOf l start n && b) (1 + sizeIn (l .octets) (l .first + start) n) 0) 0)
-      (standard-list w u (opsOf l start n))
+      (standard-list w u t (opsOf l start n))
 
-  pub weight-standard : Standard w → leb n left && risesIn w previous t ≡ true → weightOf w l left previous (Operators t start n) ≡ standardWeight l start n
+  pub weight-standard : Standard w → leb n left && risesIn w previous t ≡ true → weightOf w l left previous (Operators t start n) ≡ standardWeight t l start n
   weight-standard u f = weight-list u ∙ rw f
 
   pub weight-plain : w ≡ Plain → leb n left && risesIn w previous t ≡ true → weightOf w l left previous (Operators t start n) ≡ plainWeight l start n
   unfolding plainWeight
   weight-plain e f =
       weight-by ∙ (rw f)
-      ∙ ap (λ (v : Reading). pick (insideOf l start n && listTaken v (opsOf l start n)) (1 + sizeIn (l .octets) (l .first + start) n) 0) e
+      ∙ ap (λ (v : Reading). pick (insideOf l start n && listTaken v t (opsOf l start n)) (1 + sizeIn (l .octets) (l .first + start) n) 0) e
       ∙ ap (λ b. pick b (1 + sizeIn (l .octets) (l .first + start) n) 0) (and-true (insideOf l start n))
 
 -- ---- a list, by its tests
@@ -175,62 +175,63 @@ module _ (l : Lent) (start n : ℕ) where
   unfolding plainWeight
   plain-inside e f = rw (e, f)
 
-  pub standard-outside : insideOf l start n ≡ false → 0 ≡ standardWeight l start n
+module _ (t : ℕ) (l : Lent) (start n : ℕ) where
+  pub standard-outside : insideOf l start n ≡ false → 0 ≡ standardWeight t l start n
   unfolding standardWeight
   standard-outside e = rw e
 
-  module _ (e : insideOf l start n ≡ true) (some : 0 < n) {m : ℕ} (f : m ≡ takenSize (l .values) (l .octets) (l .first + start) n) where
-    by-taken : (b : Bool) → takes (opsOf l start n) ≡ b → standardWeight l start n ≡ pick b (1 + sizeIn (l .octets) (l .first + start) n) 0
+  module _ (e : insideOf l start n ≡ true) (some : 0 < n) {m : ℕ} (f : m ≡ takenSize t (l .values) (l .octets) (l .first + start) n) where
+    by-taken : (b : Bool) → takesIn t (opsOf l start n) ≡ b → standardWeight t l start n ≡ pick b (1 + sizeIn (l .octets) (l .first + start) n) 0
     unfolding standardWeight
-    by-taken b t = ap₂ (λ x y. pick (x && y) (1 + sizeIn (l .octets) (l .first + start) n) 0) e t
+    by-taken b k = ap₂ (λ x y. pick (x && y) (1 + sizeIn (l .octets) (l .first + start) n) 0) e k
 
-    pub standard-not : m ≡ 0 → 0 ≡ standardWeight l start n
-    standard-not z =
-        by-test (takes (opsOf l start n))
-        (λ t. let k : m ≡ sizeIn (l .octets) (l .first + start) n = rw t at f in absurd (omega (arith, size-least (l .octets) (l .first + start) n some)))
-        (λ t. sym (by-taken false t))
+    pub standard-not : m ≡ 0 → 0 ≡ standardWeight t l start n
+    standard-not y =
+        by-test (takesIn t (opsOf l start n))
+        (λ k. let z : m ≡ sizeIn (l .octets) (l .first + start) n = rw k at f in absurd (omega (arith, size-least (l .octets) (l .first + start) n some)))
+        (λ k. sym (by-taken false k))
 
-    pub standard-inside : (m ≡ 0 → ⊥) → 1 + m ≡ standardWeight l start n
-    standard-inside z =
-        by-test (takes (opsOf l start n))
-        (λ t. let k : m ≡ sizeIn (l .octets) (l .first + start) n = rw t at f in rw k (sym (by-taken true t)))
-        (λ t. absurd (z (rw t at f)))
+    pub standard-inside : (m ≡ 0 → ⊥) → 1 + m ≡ standardWeight t l start n
+    standard-inside y =
+        by-test (takesIn t (opsOf l start n))
+        (λ k. let z : m ≡ sizeIn (l .octets) (l .first + start) n = rw k at f in rw z (sym (by-taken true k)))
+        (λ k. absurd (y (rw k at f)))
 
     pub taken-most : m ≤ 9 * n
     taken-most =
-        by-test (takes (opsOf l start n))
-        (λ t. let k : m ≡ sizeIn (l .octets) (l .first + start) n = rw t at f in omega (arith, size-most (l .octets) (l .first + start) n))
-        (λ t. let k : m ≡ 0 = rw t at f in omega arith)
+        by-test (takesIn t (opsOf l start n))
+        (λ k. let z : m ≡ sizeIn (l .octets) (l .first + start) n = rw k at f in omega (arith, size-most (l .octets) (l .first + start) n))
+        (λ k. let z : m ≡ 0 = rw k at f in omega arith)
 
 pub plain-empty : (l : Lent) (start n : ℕ) → n ≡ 0 → 1 ≡ plainWeight l start n
 unfolding plainWeight sizeIn
 plain-empty l start n e = rw e
 
-pub standard-empty : (l : Lent) (start n : ℕ) → n ≡ 0 → 0 ≡ standardWeight l start n
+pub standard-empty : (t : ℕ) (l : Lent) (start n : ℕ) → n ≡ 0 → 0 ≡ standardWeight t l start n
 unfolding standardWeight opsIn
-standard-empty l start n e = rw (e, takes-none)
+standard-empty t l start n e = rw (e, takes-none)
 
-pub standard-lone : (l : Lent) (start : ℕ) → insideOf l start 1 ≡ true → oneSize (getD (l .octets) (l .first + start) 0) (getD (l .values) (l .first + start) 0) ≡ standardWeight l start 1
+pub standard-lone : (t : ℕ) (l : Lent) (start : ℕ) → insideOf l start 1 ≡ true → oneSize t (getD (l .octets) (l .first + start) 0) (getD (l .values) (l .first + start) 0) ≡ standardWeight t l start 1
 unfolding standardWeight
-standard-lone l start e =
+standard-lone t l start e =
     let o = getD (l .octets) (l .first + start) 0 in
     let v = getD (l .values) (l .first + start) 0 in
     let k : 2 + widthOf o ≡ 1 + sizeIn (l .octets) (l .first + start) 1 = omega (arith, size-one (l .octets) (l .first + start)) in
-    ap (λ (n : ℕ). pick (takes (op o v ∷ [])) n 0) k
-    ∙ sym (ap₂ (λ x ys. pick (x && takes ys) (1 + sizeIn (l .octets) (l .first + start) 1) 0) e (ops-one (l .values) (l .octets) (l .first + start)))
+    ap (λ (n : ℕ). pick (takesIn t (op o v ∷ [])) n 0) k
+    ∙ sym (ap₂ (λ x ys. pick (x && takesIn t ys) (1 + sizeIn (l .octets) (l .first + start) 1) 0) e (ops-one (l .values) (l .octets) (l .first + start)))
 
-pub standard-pair : (l : Lent) (start : ℕ) → insideOf l start 2 ≡ true
-    → pairSize (getD (l .octets) (l .first + start) 0) (getD (l .values) (l .first + start) 0) (getD (l .octets) (l .first + start + 1) 0) (getD (l .values) (l .first + start + 1) 0) ≡ standardWeight l start 2
+pub standard-pair : (t : ℕ) (l : Lent) (start : ℕ) → insideOf l start 2 ≡ true
+    → pairSize t (getD (l .octets) (l .first + start) 0) (getD (l .values) (l .first + start) 0) (getD (l .octets) (l .first + start + 1) 0) (getD (l .values) (l .first + start + 1) 0) ≡ standardWeight t l start 2
 unfolding standardWeight
-standard-pair l start e =
+standard-pair t l start e =
     let at = l .first + start in
     let o = getD (l .octets) at 0 in
     let v = getD (l .values) at 0 in
     let p = getD (l .octets) (at + 1) 0 in
     let w = getD (l .values) (at + 1) 0 in
     let k : 3 + widthOf o + widthOf p ≡ 1 + sizeIn (l .octets) at 2 = omega (arith, size-two (l .octets) at) in
-    ap (λ (n : ℕ). pick (takes (op o v ∷ op p w ∷ [])) n 0) k
-    ∙ sym (ap₂ (λ x ys. pick (x && takes ys) (1 + sizeIn (l .octets) at 2) 0) e (ops-two (l .values) (l .octets) at))
+    ap (λ (n : ℕ). pick (takesIn t (op o v ∷ op p w ∷ [])) n 0) k
+    ∙ sym (ap₂ (λ x ys. pick (x && takesIn t ys) (1 + sizeIn (l .octets) at 2) 0) e (ops-two (l .values) (l .octets) at))
 
 -- ---- a prefix, by its tests
 

@@ -17,7 +17,7 @@ use Rattle.prefixes.specs.Forms.{inRange, validIn}
 use Rattle.stored.specs.declared.Piece.{Piece}
 use Rattle.stored.specs.declared.Piece.the-variants.{Prefix, Operators, NoRecord}
 use Rattle.stored.specs.Pieces.{typeOf}
-use Rattle.listwriting.specs.Lists.{takes}
+use Rattle.listwriting.specs.Lists.{takesIn}
 use Rattle.measuring.specs.declared.Measured.{Measured}
 use Rattle.measuring.specs.declared.Measured.the-variants.{Body, Refused}
 use Rattle.measuring.specs.Bodies.{Lent, opsOf, bodyOctets}
@@ -44,16 +44,17 @@ prefixTaken Plain p = inRange p
 prefixTaken Ipv4 p = validIn 4 p
 prefixTaken Ipv6 p = validIn 6 p
 
--- standard: "an empty list; an end mark missing on the last operator or set on another; AND on the first; a value too large for its width"
-abbrev pub listTaken : Reading → List Op → Bool
-listTaken Plain os = true
-listTaken Ipv4 os = takes os
-listTaken Ipv6 os = takes os
+-- standard: "an empty list; an end mark missing on the last operator or set on another; AND on the first; a value too large for its width;
+-- a width that the standard reading refuses for the type"
+abbrev pub listTaken : Reading → ℕ → List Op → Bool
+listTaken Plain t os = true
+listTaken Ipv4 t os = takesIn t os
+listTaken Ipv6 t os = takesIn t os
 
 -- four words that are no component are taken by no writing
 unfoldable pub pieceTaken : Reading → Lent → Piece → Bool
 pieceTaken w l (Prefix t p) = prefixTaken w p
-pieceTaken w l (Operators t start count) = insideOf l start count && listTaken w (opsOf l start count)
+pieceTaken w l (Operators t start count) = insideOf l start count && listTaken w t (opsOf l start count)
 pieceTaken w l NoRecord = false
 
 unfoldable pub allTaken : Reading → Lent → List Piece → Bool

@@ -10,7 +10,7 @@ use Rattle.rules.specs.declared.NetworkPrefix.{NetworkPrefix}
 use Rattle.stored.specs.declared.Piece.{Piece}
 use Rattle.stored.specs.declared.Piece.the-variants.{Prefix, Operators, NoRecord}
 use Rattle.stored.specs.Pieces.{typeOf}
-use Rattle.listwriting.specs.Lists.{sizeIn, takes}
+use Rattle.listwriting.specs.Lists.{sizeIn, takesIn}
 use Rattle.measuring.specs.declared.Weight.{Weight}
 use Rattle.measuring.specs.Bodies.{Lent, opsOf, prefixOctets, pieceOctets}
 use Rattle.measuring.specs.Grounds.{operatorsIn, insideOf, prefixTaken, pieceTaken, risesIn}
@@ -30,8 +30,8 @@ prefixWeight w previous t p = pick (prefixTaken w p && risesIn w previous t) (1 
 unfoldable pub plainWeight : Lent → ℕ → ℕ → ℕ
 plainWeight l start count = pick (insideOf l start count) (1 + sizeIn (l .octets) (l .first + start) count) 0
 
-unfoldable pub standardWeight : Lent → ℕ → ℕ → ℕ
-standardWeight l start count = pick (insideOf l start count && takes (opsOf l start count)) (1 + sizeIn (l .octets) (l .first + start) count) 0
+unfoldable pub standardWeight : ℕ → Lent → ℕ → ℕ → ℕ
+standardWeight type l start count = pick (insideOf l start count && takesIn type (opsOf l start count)) (1 + sizeIn (l .octets) (l .first + start) count) 0
 
 -- what is no list
 abbrev pub otherWeight : Reading → ℕ → Piece → ℕ

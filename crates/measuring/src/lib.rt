@@ -131,30 +131,31 @@ fn plain_list(values: &[u64], octets: &[u8], first: usize, start: usize, count: 
 }
 
 // In the standard writing: a list of one operator.
-pub fn lone_list(values: &[u64], octets: &[u8], first: usize, start: usize) -> usize
-    ensures { λ r. ⌜ r ≡ standardWeight (lent (now (values .entry)) (now (octets .entry)) first) start 1 ⌝ }
+pub fn lone_list(tag: u8, values: &[u64], octets: &[u8], first: usize, start: usize) -> usize
+    ensures { λ r. ⌜ r ≡ standardWeight tag (lent (now (values .entry)) (now (octets .entry)) first) start 1 ⌝ }
 {
     if !inside(values, octets, first, start, 1) {
         return 0;
     }
     let at = first + start;
-    listwriting::one_size(octets[at], values[at])
+    listwriting::one_size(tag, octets[at], values[at])
 }
 
 // And a list of two.
-pub fn pair_list(values: &[u64], octets: &[u8], first: usize, start: usize) -> usize
-    ensures { λ r. ⌜ r ≡ standardWeight (lent (now (values .entry)) (now (octets .entry)) first) start 2 ⌝ }
+pub fn pair_list(tag: u8, values: &[u64], octets: &[u8], first: usize, start: usize) -> usize
+    ensures { λ r. ⌜ r ≡ standardWeight tag (lent (now (values .entry)) (now (octets .entry)) first) start 2 ⌝ }
 {
     if !inside(values, octets, first, start, 2) {
         return 0;
     }
     let at = first + start;
     let next = at + 1;
-    listwriting::pair_size(octets[at], values[at], octets[next], values[next])
+    listwriting::pair_size(tag, octets[at], values[at], octets[next], values[next])
 }
 
 // In the standard writing: a list. No entry point.
 pub fn standard_list(
+    tag: u8,
     values: &[u64],
     octets: &[u8],
     first: usize,
@@ -162,7 +163,7 @@ pub fn standard_list(
     count: usize,
 ) -> usize
     requires { ⌜ count ≤ 2047 ⌝ }
-    ensures { λ r. ⌜ r ≡ standardWeight (lent (now (values .entry)) (now (octets .entry)) first) start count ⌝ }
+    ensures { λ r. ⌜ r ≡ standardWeight tag (lent (now (values .entry)) (now (octets .entry)) first) start count ⌝ }
 {
     if count == 0 {
         return 0;
@@ -170,7 +171,7 @@ pub fn standard_list(
     if !inside(values, octets, first, start, count) {
         return 0;
     }
-    let n = listwriting::taken_size(values, octets, first + start, count);
+    let n = listwriting::taken_size(tag, values, octets, first + start, count);
     if n == 0 {
         return 0;
     }
@@ -198,9 +199,9 @@ fn weigh_list(
         Reading::Plain => plain_list(values, octets, first, start, count),
         _ => {
             if count == 1 {
-                return lone_list(values, octets, first, start);
+                return lone_list(tag, values, octets, first, start);
             }
-            standard_list(values, octets, first, start, count)
+            standard_list(tag, values, octets, first, start, count)
         }
     }
 }

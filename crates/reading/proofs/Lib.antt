@@ -7,3 +7,4 @@ pub mod Walked
 pub mod Once
 pub mod Laws
 pub mod Places
+pub mod FixedWidths

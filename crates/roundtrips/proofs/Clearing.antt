@@ -20,8 +20,8 @@ use Rattle.choices.proofs.Limits.{is-taken}
 use Rattle.operators.specs.Ops.{kindOf, clearedIn, Op, op, listOctets}
 use Rattle.lists.specs.Lists.{clearedOp, firstOp, recordedOps}
 use Rattle.lists.proofs.Laws.{recorded-none, recorded-first}
-use Rattle.listwriting.specs.Lists.{fitsIn, ends}
-use Rattle.listwriting.proofs.Laws.{ends-last, ends-more}
+use Rattle.listwriting.specs.Lists.{fitsIn, ends, narrow}
+use Rattle.listwriting.proofs.Laws.{ends-last, ends-more, narrow-none, narrow-first}
 use Rattle.roundtrips.proofs.Operators.{octets-more}
 
 -- ---- octets
@@ -36,7 +36,7 @@ same-mark x y e =
     (λ t. le-leb 128 x (omega (arith, leb-true 128 y t)) ∙ sym t)
     (λ t. lt-leb 128 x (omega (arith, leb-false 128 y t)) ∙ sym t)
 
-cleared-code : (k : Kind) (x : ℕ) → codeIn (clearedIn k x) ≡ codeIn x
+pub cleared-code : (k : Kind) (x : ℕ) → codeIn (clearedIn k x) ≡ codeIn x
 cleared-code Numeric x = omega arith
 cleared-code Bitmask x = omega arith
 
@@ -166,3 +166,21 @@ recorded-clear r t (o ∷ os) =
     ap (map (clearedOp k)) (recorded-first r t o os)
     ∙ ap₂ (λ (x : ℕ) (l : List Op). op x (o .value) ∷ l) (first-clear r k (o .octet)) (cleared-clear k os)
     ∙ sym (recorded-first r t o os)
+
+-- the widths of what is recorded are those that stand there
+cleared-narrow : (c : ℕ) (k : Kind) (os : List Op) → narrow c (map (clearedOp k) os) ≡ narrow c os
+cleared-narrow c k [] = refl
+cleared-narrow c k (o ∷ os) =
+    narrow-first c (clearedOp k o) (map (clearedOp k) os)
+    ∙ ap₂ (λ (x : ℕ) (y : Bool). ltb x c && y) (cleared-code k (o .octet)) (cleared-narrow c k os)
+    ∙ sym (narrow-first c o os)
+
+pub recorded-narrow : (c : ℕ) (r : Reading) (t : ℕ) (os : List Op) → narrow c (recordedOps r t os) ≡ narrow c os
+recorded-narrow c r t [] = ap (narrow c) (recorded-none r t)
+recorded-narrow c r t (o ∷ os) =
+    let k = kindOf t in
+    let p = firstOp r (clearedOp k o) in
+    ap (narrow c) (recorded-first r t o os)
+    ∙ narrow-first c p (map (clearedOp k) os)
+    ∙ ap₂ (λ (x : ℕ) (y : Bool). ltb x c && y) (first-code r (clearedIn k (o .octet)) ∙ cleared-code k (o .octet)) (cleared-narrow c k os)
+    ∙ sym (narrow-first c o os)

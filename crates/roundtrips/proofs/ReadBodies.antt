@@ -21,7 +21,8 @@ use Rattle.prefixes.proofs.Accepted.{Octets}
 use Rattle.lists.specs.declared.Tally.{Tally}
 use Rattle.lists.specs.Lists.{listAt, opsAt, clearedOp, recordedOps}
 use Rattle.lists.proofs.Laws.{list-ends, recorded-counts}
-use Rattle.listwriting.specs.Lists.{takes}
+use Rattle.choices.specs.Choices.{codesBy}
+use Rattle.listwriting.specs.Lists.{takes, narrow}
 use Rattle.walk.specs.Walks.{FoundAt, prefixFound, listFound, Body, body}
 use Rattle.walk.proofs.Ways.{typed-prefix, typed-list}
 use Rattle.walk.proofs.Components.{Here, here}
@@ -32,7 +33,7 @@ use Rattle.measuring.proofs.Laws.{Standard, octets-prefix, octets-list, taken-p
 use Rattle.roundtrips.specs.Trips.{placedAt, placed, clearedBy, cleared}
 use Rattle.roundtrips.proofs.Operators.{ops-there, octets-least}
 use Rattle.roundtrips.proofs.Clearing.{recorded-clear}
-use Rattle.roundtrips.proofs.ReadLists.{recorded-taken, recorded-long}
+use Rattle.roundtrips.proofs.ReadLists.{recorded-taken, recorded-narrows, recorded-long}
 use Rattle.roundtrips.proofs.ReadPrefixes.{prefix-sized, prefix-valid}
 use Rattle.roundtrips.proofs.WrittenComponents.{Sound}
 use Rattle.roundtrips.proofs.WrittenBodies.{AllSound}
@@ -94,7 +95,7 @@ module _ (w : Reading) (st : Standard w) (s : List ℕ) (o : Octets s) where
         subst (Fits w l at t start) (same e)
         record {
           taken = list-needs w st l t start (q .count)
-              record { some = list-ends w t s (at + 1) i .0; values = omega arith; octets = omega arith; taken = ap takes z ∙ recorded-taken w t s (at + 1) i st o };
+              record { some = list-ends w t s (at + 1) i .0; values = omega arith; octets = omega arith; taken = ap takes z ∙ recorded-taken w t s (at + 1) i st o; narrows = ap (narrow (codesBy t)) z ∙ recorded-narrows w t s (at + 1) i st };
           kind = refl;
           count = sym c;
           place = refl;

@@ -9,7 +9,7 @@ use lib.Seq.{getD-append-seam}
 use Rattle.ground.specs.Answers.{accepts}
 use Rattle.choices.specs.declared.Reading.{Reading}
 use Rattle.choices.specs.declared.Reading.the-variants.{Plain, Ipv4, Ipv6}
-use Rattle.choices.specs.Choices.{lastType}
+use Rattle.choices.specs.Choices.{codesBy, lastType}
 use Rattle.operators.specs.Ops.{kindOf, Op, listOctets}
 use Rattle.rules.specs.declared.NetworkPrefix.{NetworkPrefix}
 use Rattle.stored.specs.declared.Piece.{Piece}
@@ -20,10 +20,10 @@ use Rattle.prefixwriting.proofs.Inverse.{LowWord, ipv4-back, ipv6-back}
 use Rattle.lists.specs.Lists.{listAt, opsAt, clearedOp, recordedOps}
 use Rattle.walk.specs.Walks.{foundAt, prefixFound, listFound, typedAt, componentAt}
 use Rattle.walk.proofs.Ways.{found-typed, typed-prefix, typed-list}
-use Rattle.listwriting.specs.Lists.{takes}
+use Rattle.listwriting.specs.Lists.{takes, narrow}
 use Rattle.measuring.specs.Bodies.{Lent, opsOf, prefixOctets, pieceOctets}
 use Rattle.measuring.specs.Grounds.{operatorsIn, prefixTaken, pieceTaken, risesIn}
-use Rattle.measuring.proofs.Laws.{Standard, octets-prefix, octets-list, taken-prefix, taken-none, list-shows, rises-shows}
+use Rattle.measuring.proofs.Laws.{Standard, octets-prefix, octets-list, taken-prefix, taken-none, list-shows, rises-shows, standard-codes}
 use Rattle.roundtrips.specs.Trips.{placedAt, clearedBy}
 use Rattle.roundtrips.proofs.Operators.{ops-length}
 use Rattle.roundtrips.proofs.WrittenLists.{list-back, recorded-back}
@@ -78,17 +78,18 @@ module _ (w : Reading) (st : Standard w) (xs ys : List ℕ) (previous start : �
       ∙ ap (prefixFound t) (past-type (prefixAt w) xs t zs (prefix-back w st (xs ++ (t ∷ [])) ys p k e))
       ∙ ap (λ (n : ℕ). accepts (foundAt (Prefix t p) [] n)) (after-type xs t (length (prefixOctets w p)))
 
-  back-list : (t : ℕ) (os : List Op) (count : ℕ) → length os ≡ count → 2 < t → takes os ≡ true → risesIn w previous t ≡ true
+  back-list : (t : ℕ) (os : List Op) (count : ℕ) → length os ≡ count → 2 < t → takes os ≡ true → narrow (codesBy t) os ≡ true → risesIn w previous t ≡ true
       → componentAt w (xs ++ (t ∷ (listOctets (kindOf t) os ++ ys))) (length xs) previous start
       ≡ accepts (foundAt (Operators t start count) (map (clearedOp (kindOf t)) os) (length xs + suc (length (listOctets (kindOf t) os))))
-  back-list t os count c h e r =
+  back-list t os count c h e u r =
       let k = kindOf t in
       let zs = listOctets k os ++ ys in
+      let v = ap (λ (c : ℕ). narrow c os) (standard-codes w st t) ∙ u in
       found t zs r
       ∙ typed-list w t (xs ++ (t ∷ zs)) (length xs + 1) start h
       ∙ ap₂ (listFound t start)
-      (past-type (λ (x : List ℕ) (n : ℕ). recordedOps w t (opsAt x n)) xs t zs (recorded-back w t os e (xs ++ (t ∷ [])) ys))
-      (past-type (listAt w t) xs t zs (list-back w t os e (xs ++ (t ∷ [])) ys))
+      (past-type (λ (x : List ℕ) (n : ℕ). recordedOps w t (opsAt x n)) xs t zs (recorded-back w t os e v (xs ++ (t ∷ [])) ys))
+      (past-type (listAt w t) xs t zs (list-back w t os e v (xs ++ (t ∷ [])) ys))
       ∙ ap₂ (λ (m n : ℕ). accepts (foundAt (Operators t start m) (map (clearedOp k) os) n)) c (after-type xs t (length (listOctets k os)))
 
   pub component-back : (l : Lent) (p : Piece) → Sound p → pieceTaken w l p ≡ true → risesIn w previous (typeOf p) ≡ true
@@ -97,7 +98,7 @@ module _ (w : Reading) (st : Standard w) (xs ys : List ℕ) (previous start : �
   component-back l (Prefix t p) (h, k) e r = rw (octets-prefix w l t p) (back-prefix t p h k (sym (taken-prefix w l t p) ∙ e) r)
   component-back l (Operators t from count) h e r =
       rw (octets-list w l t from count)
-      (back-list t (opsOf l from count) count (ops-length (l .values) (l .octets) (l .first + from) count) h (list-shows w st l t from count e .taken) r)
+      (back-list t (opsOf l from count) count (ops-length (l .values) (l .octets) (l .first + from) count) h (list-shows w st l t from count e .taken) (list-shows w st l t from count e .narrows) r)
   component-back l NoRecord h e r = absurd (false≢true (sym (taken-none w l) ∙ e))
 
 -- its first octet is its type

@@ -35,7 +35,7 @@ module _ (n type count : ℕ) (met b : Bool) {k : ℕ} (is : k ≡ n) where
     not-asked f = taken (sym (ap (λ x. x && b) f))
 
 -- a list of some octets in a standard writing lies within the lent lists
-pub listed : (w : Reading) (l : Lent) (left previous type start count : ℕ) {k : ℕ} → (w ≡ Plain → ⊥) → k ≡ weightOf w l left previous (Operators type start count) → (k ≡ 0 → ⊥) → Listed l start count
+pub listed : (w : Reading) (l : Lent) (left previous type start count : ℕ) {k : ℕ} → (w ≡ Plain → ⊥) → k ≡ weightOf w l left previous (Operators type start count) → (k ≡ 0 → ⊥) → Listed type l start count
 listed w l left previous type start count u e z =
     list-shows w (not-plain w u) l type start count (weight-taken w l left previous (Operators type start count) (omega (arith, e, z)))
 

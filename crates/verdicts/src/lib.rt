@@ -64,11 +64,18 @@ fn no_step() -> Step
 }
 
 // A list of many operators. It stands by itself, so that the compiler leaves it out of the walk and keeps that short.
-fn many_weight(values: &[u64], octets: &[u8], first: usize, start: usize, count: usize) -> usize
+fn many_weight(
+    tag: u8,
+    values: &[u64],
+    octets: &[u8],
+    first: usize,
+    start: usize,
+    count: usize,
+) -> usize
     requires { ⌜ count ≤ 2047 ⌝ }
-    ensures { λ r. ⌜ r ≡ standardWeight (lent (now (values .entry)) (now (octets .entry)) first) start count ⌝ }
+    ensures { λ r. ⌜ r ≡ standardWeight tag (lent (now (values .entry)) (now (octets .entry)) first) start count ⌝ }
 {
-    measuring::standard_list(values, octets, first, start, count)
+    measuring::standard_list(tag, values, octets, first, start, count)
 }
 
 // How many octets a list adds to a body in a standard writing, 0 where it is not taken.
@@ -91,12 +98,12 @@ fn list_weight(
         return 0;
     }
     if count == 1 {
-        return measuring::lone_list(values, octets, first, start);
+        return measuring::lone_list(tag, values, octets, first, start);
     }
     if count == 2 {
-        return measuring::pair_list(values, octets, first, start);
+        return measuring::pair_list(tag, values, octets, first, start);
     }
-    many_weight(values, octets, first, start, count)
+    many_weight(tag, values, octets, first, start, count)
 }
 
 fn list_step(

@@ -107,7 +107,7 @@ module _ (w : Reading) (l : Lent) (x : Piece) (t : ℕ) where
   module _ (start n : ℕ) (is : x ≡ Operators t start n) where
     pub list-inside : pieceTaken w l x ≡ true → insideOf l start n ≡ true
     unfolding pieceTaken
-    list-inside e = both (insideOf l start n) (listTaken w (opsOf l start n)) (sym (ap (pieceTaken w l) is) ∙ e) .0
+    list-inside e = both (insideOf l start n) (listTaken w t (opsOf l start n)) (sym (ap (pieceTaken w l) is) ∙ e) .0
 
     pub list-long : length (pieceOctets w l x) ≡ 1 + sizeIn (l .octets) (l .first + start) n
     list-long = ap (λ y. length (pieceOctets w l y)) is ∙ length-operators w l t start n

@@ -176,6 +176,10 @@ fn two_calls_say_where_the_octets_broke() {
         ("plain_place\t-", "err 1 - @0"),
         ("plain_place\t06038106038111", "err 2 3,3 @4"),
         ("plain_place\t03038906", "err 5 137 @2"),
+        ("plain_place\t020B91", "err 1 - @3"),
+        ("plain_place\t040B91002E", "ok 5"),
+        ("std_read\t4\t-\t020B91\t9", "err 6 1 @2"),
+        ("std_read\t6\t-\t0509110100A1\t9", "err 6 2 @5"),
         (
             "std_read\t4\t-\t08050350455A9101BB\t3",
             "ok 9 3 - 5:03=80,45=90,91=443",

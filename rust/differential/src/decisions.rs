@@ -80,8 +80,9 @@ impl Comparison {
     }
 }
 
-/// A random match: a rule, and a packet near what it or one like it asks for; one time in six
-/// the rule is damaged, the packet spoiled or of the other family, or the words too few or more.
+/// A random match: a rule, and a packet near what it or one like it asks for; one time in five
+/// the rule is damaged or has a value that is too wide, the packet is spoiled or of the other family,
+/// or the words are too few or more.
 pub fn random_match(random: &mut Random, comparison: &mut Comparison, ways: &mut Ways) {
     let family = random.pick(&[4, 6]);
     let flow = flows::good(family, random);
@@ -110,11 +111,14 @@ pub fn random_match(random: &mut Random, comparison: &mut Comparison, ways: &mut
             behind(random, &mut rule);
             way = "words behind the rule, or too few";
         }
+        4 if flows::widen(random, &rule.words, &mut rule.octets) => way = TOO_WIDE,
         _ => {}
     }
     *ways.entry(way).or_insert(0) += 1;
     comparison.matching(&rule, &packet);
 }
+
+const TOO_WIDE: &str = "a value too wide for its type";
 
 /// Puts words behind a rule's own, or takes some of those away.
 fn behind(random: &mut Random, rule: &mut Stored) {
@@ -145,6 +149,12 @@ pub fn random_ranking(random: &mut Random, comparison: &mut Comparison, ways: &m
         3 => {
             stored[which].words[FAMILY] ^= 2;
             way = "a family exchanged";
+        }
+        4 => {
+            let rule = &mut stored[which];
+            if flows::widen(random, &rule.words, &mut rule.octets) {
+                way = TOO_WIDE;
+            }
         }
         _ => {}
     }

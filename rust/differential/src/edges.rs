@@ -27,7 +27,7 @@ pub fn matches(take: TakeWithPacket) {
     absent(take);
     packet_words(take);
     rule_words(take);
-    for (family, rule) in long_rules() {
+    for (family, rule) in long_and_wide_rules() {
         take(&rule, &packets::words(&full(family, 37)));
     }
 }
@@ -37,8 +37,8 @@ pub fn rankings(take: TakeTwo) {
     ranked_prefixes(take);
     ranked_lists(take);
     ranked_types(take);
-    let long = long_rules();
-    for ((_, one), (_, other)) in long.iter().zip(&long[1..]) {
+    let rules = long_and_wide_rules();
+    for ((_, one), (_, other)) in rules.iter().zip(&rules[1..]) {
         take(one, one);
         take(one, other);
         take(other, one);
@@ -62,7 +62,7 @@ pub fn choices(take: TakeWithPacket) {
     turned(take);
     refused(take);
     numbers_of_rules(take);
-    for (family, rule) in long_rules() {
+    for (family, rule) in long_and_wide_rules() {
         let mut table = table(&[flow(family, "00")]);
         tables::push(&mut table, &rule);
         take(&table, &packets::words(&full(family, 37)));
@@ -109,7 +109,7 @@ fn list_types(family: u8, bitmask: bool) -> impl Iterator<Item = u8> {
 }
 
 /// Each type with each operator octet and a value at the ends of its field's range and of each width,
-/// against the numbers around it.
+/// also of those that the type does not have, against the numbers around it.
 fn numeric(take: TakeWithPacket) {
     for family in FAMILIES {
         for kind in list_types(family, false).chain(list_types(family, true)) {
@@ -258,7 +258,8 @@ fn tcp_flags(take: TakeWithPacket) {
     }
 }
 
-/// Masks that are wider than what they are held to, and two masks that are joined or not.
+/// Masks that are wider than what they are held to, or than their type has them, and two masks that
+/// are joined or not.
 fn wide_and_joined_masks(take: TakeWithPacket) {
     let wide = [
         (0x10, 0x100),
@@ -537,7 +538,7 @@ fn ranked_lists(take: TakeTwo) {
             }
         }
     }
-    for kind in [3, 11, 12] {
+    for kind in [3, 9, 11, 12] {
         for code in 0..4u8 {
             let whole = 0x1122_3344_5566_7788 >> (64 - (8u32 << code));
             let of = |value| stored(6, vec![list(kind, &[(0x01 | code << 4, value), (0x81, 1)])]);
@@ -624,6 +625,30 @@ fn long_rules() -> Vec<(u8, Stored)> {
     rules
 }
 
+/// Rules of each list type with a value of each width, also of those that the type does not have, alone,
+/// first and last; with their families.
+fn wide_rules() -> Vec<(u8, Stored)> {
+    let mut rules = Vec::new();
+    for family in FAMILIES {
+        for kind in list_types(family, false).chain(list_types(family, true)) {
+            for own in [0x01, 0x11, 0x21, 0x31] {
+                for operators in [
+                    &[(0x80 | own, 37)][..],
+                    &[(own, 37), (0x81, 37)],
+                    &[(0x01, 37), (0x80 | own, 37)],
+                ] {
+                    rules.push((family, stored(family, vec![list(kind, operators)])));
+                }
+            }
+        }
+    }
+    rules
+}
+
+fn long_and_wide_rules() -> Vec<(u8, Stored)> {
+    [long_rules(), wide_rules()].concat()
+}
+
 /// Document 01's case.
 fn three_addresses(take: TakeWithPacket) {
     let rules = [flow(4, "03 01 08 0A"), flow(4, "04 01 10 0A 01")];
@@ -696,12 +721,14 @@ fn refused(take: TakeWithPacket) {
     bad.rule.components[0].kind = 13;
     let mut none = good.clone();
     none.family = 5;
+    let mut wide = good.clone();
+    wide.rule.components = vec![list(11, &[(0x01, 3), (0x91, 3)])];
     let fine = packets::words(&full(4, 3));
     let mut wrong = fine;
     wrong[8] = 16;
     for count in [1, 2, 3, 8, 63, 64, 65] {
-        for one in [&good, &other, &bad, &none] {
-            for two in [&good, &other, &bad, &none] {
+        for one in [&good, &other, &bad, &none, &wide] {
+            for two in [&good, &other, &bad, &none, &wide] {
                 for places in [(0, count - 1), (count / 2, count / 3), (count - 1, 0)] {
                     let mut rules = vec![good.clone(); count];
                     rules[places.0] = one.clone();

@@ -2,8 +2,8 @@
 //! have, and rules that are like another but for one thing.
 
 use crate::packets::most;
-use crate::records;
-use crate::stored::Stored;
+use crate::stored::{Stored, COUNT, FIRST};
+use crate::{records, Form};
 use inputs::Random;
 use standard::{Address, Component, Content, Flow, Operator, Prefix, Rule};
 
@@ -106,8 +106,25 @@ fn is_bitmask(kind: u8) -> bool {
     [9, 12].contains(&kind)
 }
 
+/// The greatest width code of a type.
+fn most_code(kind: u8) -> u8 {
+    // In both families.
+    inputs::most_code(Form::Standard(4), kind)
+}
+
+/// The value as a type can hold it. What does not fit sets the highest bit that does, so that a mask
+/// with bits beyond its field stays one.
+fn held(kind: u8, value: u64) -> u64 {
+    let bits = 8u32 << most_code(kind);
+    let most = u64::MAX >> (64 - bits);
+    match value > most {
+        true => value & most | 1 << (bits - 1),
+        false => value,
+    }
+}
+
 /// An operator, joined or not, its value in the field's range or just beside it, in its least width
-/// or a greater one.
+/// or a greater one of its type.
 fn operator(kind: u8, reserved: bool, random: &mut Random) -> Operator {
     let kept = match (reserved, is_bitmask(kind)) {
         (true, _) => 0x4F,
@@ -127,15 +144,21 @@ fn operator(kind: u8, reserved: bool, random: &mut Random) -> Operator {
         9 if kind == 12 => 1 << random.below(9),
         _ => random.below(most as usize + 1) as u64,
     };
-    let least = least_code(value);
+    let value = held(kind, value);
     let code = match random.below(4) {
-        0 => least + random.below(4 - usize::from(least)) as u8,
-        _ => least,
+        0 => any_code(kind, value, random),
+        _ => least_code(value),
     };
     Operator {
         octet: random.octet() & kept | code << 4,
         value,
     }
+}
+
+/// The code of a width that a type has and that holds a value.
+fn any_code(kind: u8, value: u64, random: &mut Random) -> u8 {
+    let least = least_code(value);
+    least + random.below(usize::from(most_code(kind) - least) + 1) as u8
 }
 
 /// The code of the least width that holds a value.
@@ -205,7 +228,8 @@ fn add_component(flow: &mut Flow, random: &mut Random) -> Option<&'static str> {
     Some("one component more")
 }
 
-/// Gives a component the next or the previous type, where its neighbours leave that free.
+/// Gives a component the next or the previous type, where its neighbours leave that free and its
+/// values are not too wide for it.
 fn change_type(flow: &mut Flow, random: &mut Random) -> Option<&'static str> {
     let components = &mut flow.rule.components;
     let at = Some(components.len()).filter(|&count| count != 0)?;
@@ -219,11 +243,19 @@ fn change_type(flow: &mut Flow, random: &mut Random) -> Option<&'static str> {
     if !is_free || is_prefix(kind) != is_prefix(components[at].kind) || kind == 0 {
         return None;
     }
-    if kind > last_type(flow.family) {
+    if kind > last_type(flow.family) || is_too_wide(kind, &components[at].content) {
         return None;
     }
     components[at].kind = kind;
     Some("a type")
+}
+
+fn is_too_wide(kind: u8, content: &Content) -> bool {
+    let is_wide = |one: &Operator| one.octet >> 4 & 3 > most_code(kind);
+    match content {
+        Content::Prefix(_) => false,
+        Content::List(list) => list.iter().any(is_wide),
+    }
 }
 
 fn change_content(flow: &mut Flow, random: &mut Random) -> Option<&'static str> {
@@ -305,7 +337,6 @@ fn change_operator(
     random: &mut Random,
 ) -> Option<&'static str> {
     let with_code = |octet: u8, code: u8| octet & !0x30 | code << 4;
-    let least = least_code(one.value);
     match change {
         0 => {
             one.octet ^= if is_bitmask(kind) { 0x04 } else { 0x08 };
@@ -316,6 +347,7 @@ fn change_operator(
                 0 => one.value.checked_add(1)?,
                 _ => one.value.checked_sub(1)?,
             };
+            let value = Some(value).filter(|&value| held(kind, value) == value)?;
             let code = (one.octet >> 4 & 3).max(least_code(value));
             (one.octet, one.value) = (with_code(one.octet, code), value);
             Some("a value by one")
@@ -325,7 +357,7 @@ fn change_operator(
             Some("a comparison bit")
         }
         4 => {
-            let code = least + random.below(4 - usize::from(least)) as u8;
+            let code = any_code(kind, one.value, random);
             one.octet = with_code(one.octet, code);
             Some("a width")
         }
@@ -346,4 +378,24 @@ pub fn store(flow: &Flow, random: &mut Random, record: &mut Stored) {
         record.values.push(random.value());
         record.octets.push(random.octet());
     }
+}
+
+/// Gives an operator a width that its type does not have, where the rule that words store has such a
+/// list: whether it has.
+pub fn widen(random: &mut Random, words: &[u64], octets: &mut [u8]) -> bool {
+    let is_narrow = |group: &&[u64]| matches!(group[0], 3..=13) && most_code(group[0] as u8) < 3;
+    let lists: Vec<&[u64]> = words[..COUNT].chunks(4).filter(is_narrow).collect();
+    if lists.is_empty() {
+        return false;
+    }
+    let list = random.pick(&lists);
+    let most = most_code(list[0] as u8);
+    let code = 1 + most + random.below(usize::from(3 - most)) as u8;
+    let operator = random.below(list[2] as usize) as u64;
+    let place = words[FIRST].wrapping_add(list[1]).wrapping_add(operator);
+    let octet = octets.get_mut(place as usize);
+    octet.map_or(false, |octet| {
+        *octet = *octet & !0x30 | code << 4;
+        true
+    })
 }

@@ -101,6 +101,7 @@ impl Answer {
             refusal::INVALID_COMPONENT_ORDER => vec![self.first, self.second],
             refusal::INVALID_COMPONENT_TYPE
             | refusal::INVALID_OPERATOR
+            | refusal::INVALID_VALUE_LENGTH
             | refusal::VALUE_TOO_LARGE
             | refusal::INPUT_TOO_LONG
             | refusal::NO_ROOM

@@ -225,6 +225,7 @@ pub fn standard_refusal(refused: Refusal) -> Answer {
         Refusal::InvalidComponentType(found) => (refusal::INVALID_COMPONENT_TYPE, found.into(), 0),
         Refusal::InvalidPrefix => (refusal::INVALID_PREFIX, 0, 0),
         Refusal::InvalidOperator(octet) => (refusal::INVALID_OPERATOR, octet.into(), 0),
+        Refusal::InvalidValueLength(code) => (refusal::INVALID_VALUE_LENGTH, code.into(), 0),
         Refusal::ValueTooLarge(length) => (refusal::VALUE_TOO_LARGE, length as u64, 0),
         Refusal::InputTooLong(length) => (refusal::INPUT_TOO_LONG, length as u64, 0),
         Refusal::BadRecord => (refusal::BAD_RECORD, 0, 0),

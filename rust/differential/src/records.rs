@@ -3,7 +3,7 @@
 
 use crate::stored::{Stored, COUNT, FAMILY, FIRST, IPV4, IPV4_OFFSET, IPV6, IPV6_OFFSET, WORDS};
 use crate::{Form, LONGEST_BODY, MOST_COMPONENTS, MOST_OPERATORS};
-use inputs::{list_of, Random};
+use inputs::{list_of, most_code, Random, LONG_LISTS};
 
 /// Whoever is handed the records, one after another.
 pub type Take<'a> = &'a mut dyn FnMut(&Stored);
@@ -51,20 +51,18 @@ pub fn by_rule(form: Form, take: Take) {
     words(form, take);
 }
 
-/// A random record: one that the form's writing takes, as it is or damaged, or one of any shape.
+/// A random record: one that the form's writing takes, as it is or damaged, one whose values may be
+/// too wide for it, or one of any shape.
 pub fn random(form: Form, random: &mut Random, record: &mut Stored) {
-    let any = match form {
-        Form::Plain => 4,
-        Form::Standard(_) => 1,
-    };
     record.clear(family(form));
-    if random.below(8) < any {
-        any_record(random, record);
-    } else {
-        good_record(form, random, record);
-        if random.once_in(2) {
-            damage(random, record);
-        }
+    let widths = match (form, random.below(8)) {
+        (Form::Plain, 0..=3) | (_, 0) => return any_record(random, record),
+        (_, 1) => Form::Plain,
+        _ => form,
+    };
+    good_record(form, widths, random, record);
+    if random.once_in(2) {
+        damage(random, record);
     }
 }
 
@@ -204,7 +202,7 @@ fn long_bodies(form: Form, take: Take) {
         .chain(LONGEST_BODY - 9..=LONGEST_BODY + 9)
         .chain([8191, 8192])
     {
-        for (kind, code) in [(4, 0), (4, 1), (9, 2), (4, 3), (12, 0), (10, 3)] {
+        for (kind, code) in LONG_LISTS {
             let mut record = Stored::new(family(form));
             push_body(&mut record, &list_of(kind, length, code));
             take(&record);
@@ -293,7 +291,7 @@ fn words(form: Form, take: Take) {
     let mut record = Stored::new(family(form));
     for _ in 0..24 {
         record.clear(family(form));
-        good_record(form, &mut random, &mut record);
+        good_record(form, form, &mut random, &mut record);
         for word in 0..WORDS {
             let held = record.words[word];
             let flips = (0..64).map(|bit| held ^ 1 << bit);
@@ -316,8 +314,9 @@ fn words(form: Form, take: Take) {
     }
 }
 
-/// A record that the form's writing takes, unless its body comes out too long.
-fn good_record(form: Form, random: &mut Random, record: &mut Stored) {
+/// A record that the form's writing takes, unless its body comes out too long or its values, which
+/// have the widths of a form, are too wide.
+fn good_record(form: Form, widths: Form, random: &mut Random, record: &mut Stored) {
     let last = if form == Form::Standard(4) { 12 } else { 13 };
     let odds = random.pick(&[2, 4, 4, 6]);
     let most = random.pick(&[1, 2, 4, 4, 8, 40]);
@@ -326,7 +325,7 @@ fn good_record(form: Form, random: &mut Random, record: &mut Stored) {
         if random.once_in(odds) {
             match kind {
                 1 | 2 => good_prefix(form, random, kind, record),
-                _ => good_list(random, kind, most, record),
+                _ => good_list(widths, random, kind, most, record),
             }
         }
     }
@@ -369,12 +368,13 @@ fn good_prefix(form: Form, random: &mut Random, kind: u8, record: &mut Stored) {
     record.push_prefix(kind, prefix_form, length as u8, offset as u8, any & kept);
 }
 
-fn good_list(random: &mut Random, kind: u8, most: usize, record: &mut Stored) {
+fn good_list(widths: Form, random: &mut Random, kind: u8, most: usize, record: &mut Stored) {
     let count = 1 + random.below(most);
+    let codes = most_code(widths, kind) << 4;
     let operator = |place: usize| {
         let and = if place == 0 { 0 } else { 0x40 };
         let end = if place + 1 == count { 0x80 } else { 0 };
-        let octet = random.octet() & (0x3F | and) | end;
+        let octet = random.octet() & (0x0F | codes | and) | end;
         let fits = u64::MAX >> (64 - (8u32 << (octet >> 4 & 3)));
         (octet, random.value() & fits)
     };

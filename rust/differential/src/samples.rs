@@ -19,6 +19,7 @@ pub fn all() -> Vec<Request> {
     let mut list = Vec::new();
     readings(&mut random, &mut list);
     writings(&mut random, &mut list);
+    widths(&mut list);
     matches(&mut random, &mut list);
     rankings(&mut random, &mut list);
     choices(&mut random, &mut list);
@@ -190,6 +191,47 @@ fn long_lists(family: u8, list: &mut Vec<Request>) {
         record.push_list(4, (0..count).map(|place| (octet(place), 7)));
         record.push_list(11, [(0x81, 7)].into_iter());
         list.push(write(family, &record, LONGEST_INPUT));
+    }
+}
+
+/// Each type with each width, as the first operator and as a later one, its value there, there in part
+/// and missing; the same read from a length in two octets and behind other components; and as
+/// records.
+fn widths(list: &mut Vec<Request>) {
+    let mut record = Stored::new(0);
+    for family in FAMILIES {
+        for kind in 3..=13 {
+            for code in 0..4u8 {
+                let (own, width) = (code << 4 | 0x01, 1 << code);
+                let (last, value) = (own | 0x80, [0; 8]);
+                for body in [
+                    [&[kind, last][..], &value[..width]].concat(),
+                    [&[kind, last][..], &value[..width / 2]].concat(),
+                    vec![kind, last],
+                    [&[kind, own][..], &value[..width], &[0x81, 0x05]].concat(),
+                    [&[kind, 0x01, 0x05, last][..], &value[..width]].concat(),
+                    vec![kind, 0x01, 0x05, 0x41, 0x07, last],
+                ] {
+                    list.push(read(family, &framed(&body), PLACES, PLACES));
+                }
+                let long = [&[0xF0, 2 + width as u8, kind, last][..], &value[..width]].concat();
+                list.push(read(family, &long, PLACES, PLACES));
+                if kind > 5 {
+                    let front = [0x03, 0x81, 0x06, 0x05, 0x91, 0x01, 0xBB];
+                    let body = [&front[..], &[kind, last | 0x48]].concat();
+                    list.push(read(family, &framed(&body), PLACES, PLACES));
+                }
+                for operators in [
+                    &[(last, 5)][..],
+                    &[(own, 5), (0x81, 6)],
+                    &[(0x01, 6), (last, 5)],
+                ] {
+                    record.clear(family.into());
+                    record.push_list(kind, operators.iter().copied());
+                    list.push(write(family, &record, PLACES));
+                }
+            }
+        }
     }
 }
 
@@ -370,7 +412,7 @@ fn rankings(random: &mut Random, list: &mut Vec<Request>) {
         for one in &rules {
             list.extend(rules.iter().map(|other| ranked(family, one, other)));
         }
-        for text in ["", "01 0E", "02 03 89", "01 00"] {
+        for text in ["", "01 0E", "02 03 89", "01 00", "02 0B 91"] {
             list.push(ranked(family, &octets(text), &rules[0]));
             list.push(ranked(family, &rules[0], &octets(text)));
         }
@@ -482,6 +524,9 @@ fn bad_rules(family: u8) -> Vec<Flow> {
         vec![list(4, 0x81, 6), list(3, 0x81, 6)],
         vec![list(3, 0x81, 6), list(3, 0x81, 6)],
         vec![list(13, 0x81, 6)],
+        vec![list(9, 0xA1, 6)],
+        vec![list(11, 0x91, 6)],
+        vec![list(3, 0x81, 6), list(12, 0xB1, 6)],
         vec![prefix(four(0), 8, None)],
         vec![prefix(four(1), 31, None)],
         vec![prefix(four(0), 33, None)],

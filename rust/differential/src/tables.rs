@@ -104,7 +104,7 @@ fn store_all(rules: &[Flow], random: &mut Random) -> Stored {
 fn fault(table: &mut Stored, packet: &mut Vec<u64>, random: &mut Random) -> &'static str {
     let rules = table.words.len() / WORDS;
     let at = random.below(rules.max(1)) * WORDS;
-    match random.below(8) {
+    match random.below(9) {
         0 if packet.len() == packets::WORDS => {
             packets::spoil(random, packet);
             "a packet spoiled"
@@ -137,6 +137,7 @@ fn fault(table: &mut Stored, packet: &mut Vec<u64>, random: &mut Random) -> &'st
             }
             "too many rules"
         }
+        7 if rules != 0 && widen_rule(table, at, random) => "a value too wide for its type",
         _ => {
             shorten_lists(table, random);
             "lists too short"
@@ -154,6 +155,14 @@ fn damage_rule(table: &mut Stored, at: usize, random: &mut Random) {
     records::damage(random, &mut rule);
     table.words[at..at + WORDS].copy_from_slice(&rule.words);
     (table.values, table.octets) = (rule.values, rule.octets);
+}
+
+/// Makes a value too wide, of the rule whose words begin at this place or of the next that can have
+/// one: whether there is such a rule.
+fn widen_rule(table: &mut Stored, at: usize, random: &mut Random) -> bool {
+    let (before, from) = table.words.split_at(at);
+    let mut rules = from.chunks_exact(WORDS).chain(before.chunks_exact(WORDS));
+    rules.any(|words| flows::widen(random, words, &mut table.octets))
 }
 
 /// Puts a rule of the other family in place of the one whose words begin at this place.

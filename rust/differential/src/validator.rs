@@ -60,12 +60,14 @@ pub fn check(form: Form, input: &[u8]) -> Result<Checked, Fault> {
                 return Err(Refusal::InvalidComponentType(found).at(at))
             }
             3..=13 => {
-                let refused = match (reading, found) {
-                    (Reading::Plain, 9 | 12) => 0x0C,
-                    (Reading::Plain, _) => 0x08,
-                    _ => 0,
+                let (wide, refused) = match (reading, found) {
+                    (Reading::Plain, 9 | 12) => (0, 0x0C),
+                    (Reading::Plain, _) => (0, 0x08),
+                    (_, 9) => (0x20, 0),
+                    (_, 11 | 12) => (0x30, 0),
+                    _ => (0, 0),
                 };
-                let (after, count) = after_list(refused, octets, at + 1)?;
+                let (after, count) = after_list(wide, refused, octets, at + 1)?;
                 at = after;
                 operators += count;
             }
@@ -109,11 +111,20 @@ fn after_prefix(reading: Reading, octets: &[u8], at: usize) -> Result<usize, Fau
 }
 
 /// Where the list ends that begins here, and how many operators it has. Of these bits none may be
-/// set in an operator octet.
-fn after_list(refused: u8, octets: &[u8], mut at: usize) -> Result<(usize, usize), Fault> {
+/// set in an operator octet: those that make its value too wide, and those that are refused once
+/// the value is there.
+fn after_list(
+    wide: u8,
+    refused: u8,
+    octets: &[u8],
+    mut at: usize,
+) -> Result<(usize, usize), Fault> {
     let mut count = 0;
     loop {
         let octet = *octets.get(at).ok_or_else(|| missing(octets))?;
+        if octet & wide != 0 {
+            return Err(Refusal::InvalidValueLength(octet >> 4 & 3).at(at));
+        }
         let after = at + 1 + (1 << (octet >> 4 & 3));
         if after > octets.len() {
             return Err(missing(octets));

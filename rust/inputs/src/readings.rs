@@ -10,8 +10,9 @@ pub type Take<'a> = &'a mut dyn FnMut(&[u8]);
 pub const DOCUMENTED: usize = 31;
 
 /// Document 01's cases and the RFCs' worked examples (RFC 8955, 4.3; RFC 8956, 3.8), then rules of
-/// several lists, operators and widths, and longer ones.
-pub const FIXED: [&str; 36] = [
+/// several lists, operators and widths, and longer ones; then the widest values that TCP flags, DSCP
+/// and fragments have by the RFCs, and wider ones, first and later, there and missing.
+pub const FIXED: [&str; 45] = [
     "",
     "F0",
     "EF",
@@ -48,6 +49,15 @@ pub const FIXED: [&str; 36] = [
     "15 0A 03 40 D4 02 00 0C 40 01 81 02 0D B1 00 00 00 00 00 0A BC DE",
     "10 0B 01 0A 81 2E 0C 01 01 82 02 0D A1 00 0F FF FF",
     "1A 03 81 06 04 81 19 05 81 50 06 81 51 07 81 08 08 81 00 09 81 02 0A 81 40 0B 81 0A",
+    "13 09 11 01 00 41 02 D2 0F 00 0B 01 0A 81 2E 0C 01 02 C0 04",
+    "02 0B 91",
+    "04 0B 91 00 2E",
+    "04 0C 91 00 01",
+    "06 09 A1 00 00 00 02",
+    "0A 09 B1 00 00 00 00 00 00 01 00",
+    "09 09 11 01 00 A1 00 00 00 02",
+    "05 0B 01 0A 91 2E",
+    "0B 03 81 06 0C 01 01 E2 00 00 00 02",
 ];
 
 /// The octets that a text in hex stands for, with blanks between them.
@@ -58,6 +68,16 @@ pub fn octets(text: &str) -> Vec<u8> {
     octets
         .collect::<Result<_, _>>()
         .expect("the texts here are hex")
+}
+
+/// The greatest code of a value's width, 0 to 3, that a form's reading takes in lists of a type: 0, 1
+/// or 3, so that the codes up to it are those without other bits.
+pub fn most_code(form: Form, kind: u8) -> u8 {
+    match (form, kind) {
+        (Form::Standard(_), 9) => 1,
+        (Form::Standard(_), 11 | 12) => 0,
+        _ => 3,
+    }
 }
 
 /// All inputs that are made by rule.
@@ -74,17 +94,20 @@ pub fn by_rule(form: Form, take: Take) {
     long_inputs(take);
 }
 
-/// A random input: good, damaged, wrongly stated, or octets with little or no sense.
+/// A random input: good, damaged, wrongly stated, or octets with little or no sense. One in ten may
+/// have values that are too wide.
 pub fn random(form: Form, random: &mut Random, input: &mut Vec<u8>) {
     input.clear();
-    match random.below(1000) {
-        0 => long_input(random, input),
-        1..=399 => good(form, random, input),
+    let way = random.below(1000);
+    let widths = if way % 10 == 9 { Form::Plain } else { form };
+    match way {
+        0 => long_input(form, random, input),
+        1..=399 => rule(form, widths, random, input),
         400..=749 => {
-            good(form, random, input);
+            rule(form, widths, random, input);
             damage(random, input);
         }
-        750..=849 => misstated(form, random, input),
+        750..=849 => misstated(form, widths, random, input),
         850..=949 => {
             let body: Vec<u8> = (0..random.below(16)).map(|_| telling(random)).collect();
             frame(body.len(), random.once_in(8), &body, input);
@@ -226,7 +249,7 @@ fn faults(form: Form, take: Take) {
         [3, 0x01, 0x06, 0x91, 0x00, 0x11].to_vec(),
         [component(1), component(3)].concat(),
     ];
-    let wrong: [&[u8]; 19] = [
+    let wrong: [&[u8]; 28] = [
         // Order and type.
         &[0],
         &[1, 0x20],
@@ -241,7 +264,17 @@ fn faults(form: Form, take: Take) {
         &[4, 0x89, 0x06],
         &[12, 0x85, 0x01],
         &[4, 0x11, 0x00, 0x50, 0x9F, 0x00, 0x51],
-        &[9, 0x01, 0x02, 0xAC, 0x00, 0x00, 0x00, 0x10],
+        &[9, 0x01, 0x02, 0x9C, 0x00, 0x10],
+        // A width, of the first and a later operator, the value there, missing and there in part.
+        &[9, 0xA1, 0x00, 0x00, 0x00, 0x02],
+        &[9, 0x11, 0x01, 0x00, 0xA1],
+        &[9, 0x01, 0x02, 0xFE, 0x00, 0x00],
+        &[11, 0x91, 0x00, 0x2E],
+        &[11, 0x99],
+        &[11, 0x01, 0x0A, 0x01, 0x0B, 0xE1, 0x00],
+        &[12, 0x91],
+        &[12, 0x01, 0x01, 0x9D, 0x00, 0x02],
+        &[12, 0xB1, 0x00],
         // A missing octet of each kind, and some of several.
         &[2],
         &[2, 32, 0, 0x20],
@@ -249,7 +282,7 @@ fn faults(form: Form, take: Take) {
         &[4, 0x81],
         &[4, 0x01, 0x50],
         &[4, 0xA1, 0x00, 0x01],
-        &[12, 0x01, 0x02, 0xB9, 0x00, 0x01],
+        &[10, 0x01, 0x02, 0xB9, 0x00, 0x01],
     ];
     let mut input = Vec::new();
     for front in &fronts {
@@ -271,7 +304,7 @@ pub fn good_inputs(form: Form) -> Vec<Vec<u8>> {
     let mut random = Random::new(0xF10);
     for _ in 0..400 {
         let mut input = Vec::new();
-        good(form, &mut random, &mut input);
+        rule(form, form, &mut random, &mut input);
         inputs.push(input);
     }
     inputs
@@ -304,13 +337,28 @@ fn restated(input: &[u8], take: Take) {
     }
 }
 
+/// Types and width codes of long lists: each width, and of some types the widest and a wider one.
+pub const LONG_LISTS: [(u8, u8); 11] = [
+    (4, 0),
+    (4, 1),
+    (4, 2),
+    (4, 3),
+    (9, 1),
+    (9, 2),
+    (10, 3),
+    (11, 0),
+    (11, 1),
+    (12, 0),
+    (13, 3),
+];
+
 /// Bodies where the length takes a second octet, where its high part begins and at the longest, of
 /// each width; some of the longest with every truncation.
 fn long_bodies(take: Take) {
     let edges = (236..=243).chain(253..=259).chain([1024, 2303]);
     let mut input = Vec::new();
     for length in edges.chain(4086..=LONGEST_BODY) {
-        for (kind, code) in [(4, 0), (4, 1), (9, 2), (4, 3), (12, 0), (13, 3)] {
+        for (kind, code) in LONG_LISTS {
             let body = list_of(kind, length, code);
             for two_octets in [false, true] {
                 frame_anew(length, two_octets, &body, &mut input);
@@ -361,16 +409,17 @@ fn long_inputs(take: Take) {
     }
 }
 
-/// A rule that is accepted, most often with nothing behind it.
-fn good(form: Form, random: &mut Random, input: &mut Vec<u8>) {
-    let body = good_body(form, random);
+/// A rule that is accepted if its values are not too wide, most often with nothing behind it. They
+/// have the widths that a form takes.
+fn rule(form: Form, widths: Form, random: &mut Random, input: &mut Vec<u8>) {
+    let body = body(form, widths, random);
     frame(body.len(), random.once_in(8), &body, input);
     if random.once_in(4) {
         input.extend((0..=random.below(4)).map(|_| random.octet()));
     }
 }
 
-fn good_body(form: Form, random: &mut Random) -> Vec<u8> {
+fn body(form: Form, widths: Form, random: &mut Random) -> Vec<u8> {
     let last = if form == Form::Standard(4) { 12 } else { 13 };
     let odds = random.pick(&[2, 4, 4, 6]);
     let most = random.pick(&[1, 2, 4, 4, 8, 40]);
@@ -382,7 +431,7 @@ fn good_body(form: Form, random: &mut Random) -> Vec<u8> {
         body.push(kind);
         match kind {
             1 | 2 => prefix(form, random, &mut body),
-            _ => list(form, random, kind, most, &mut body),
+            _ => list(form, widths, random, kind, most, &mut body),
         }
     }
     body
@@ -414,7 +463,7 @@ fn prefix(form: Form, random: &mut Random, body: &mut Vec<u8>) {
 }
 
 /// A list of up to so many operators. The standard reading accepts reserved bits.
-fn list(form: Form, random: &mut Random, kind: u8, most: usize, body: &mut Vec<u8>) {
+fn list(form: Form, widths: Form, random: &mut Random, kind: u8, most: usize, body: &mut Vec<u8>) {
     let allowed = match (form, kind) {
         (Form::Standard(_), _) if random.once_in(2) => 0x7F,
         (_, 9 | 12) => 0x73,
@@ -428,6 +477,7 @@ fn list(form: Form, random: &mut Random, kind: u8, most: usize, body: &mut Vec<u
     for left in (0..=random.below(most)).rev() {
         let mut octet = random.octet() & allowed;
         octet = one_width.map_or(octet, |width| octet & !0x30 | width);
+        octet &= !0x30 | most_code(widths, kind) << 4;
         if left == 0 {
             octet |= 0x80;
         }
@@ -464,8 +514,8 @@ fn damage(random: &mut Random, input: &mut Vec<u8>) {
 }
 
 /// A good body behind a length that is not its own.
-fn misstated(form: Form, random: &mut Random, input: &mut Vec<u8>) {
-    let mut body = good_body(form, random);
+fn misstated(form: Form, widths: Form, random: &mut Random, input: &mut Vec<u8>) {
+    let mut body = body(form, widths, random);
     let size = body.len();
     let stated = match random.below(4) {
         0 => random.below(size + 2),
@@ -477,14 +527,15 @@ fn misstated(form: Form, random: &mut Random, input: &mut Vec<u8>) {
 }
 
 /// A long one, now and then damaged, near the longest or anywhere below.
-fn long_input(random: &mut Random, input: &mut Vec<u8>) {
+fn long_input(form: Form, random: &mut Random, input: &mut Vec<u8>) {
     let length = match random.below(3) {
         0 => 4085 + random.below(11),
         1 => 236 + random.below(24),
         _ => 300 + random.below(3700),
     };
     let kind = random.pick(&[4, 5, 9, 10, 12]);
-    let body = list_of(kind, length, random.below(4) as u8);
+    let code = random.below(4) as u8 & most_code(form, kind);
+    let body = list_of(kind, length, code);
     frame(length, random.once_in(8), &body, input);
     match random.below(4) {
         0 => damage(random, input),

@@ -32,7 +32,8 @@ pub enum FlowSpecError {
     InsufficientData,
     /// A prefix is longer than an address.
     InvalidPrefix,
-    /// Not met: each of the four width codes has its width. The original has this error.
+    /// Met by no parsing, as in the original: each of the four width codes has its width, and every list takes it. The refusal 6 of a
+    /// standard reading, [`Reason::InvalidValueLength`], converts to it.
     InvalidValueLength(u8),
 }
 
@@ -245,7 +246,8 @@ pub enum Reason {
     InvalidPrefix,
     /// 5, of the plain reading alone: a reserved bit is set in this operator octet.
     InvalidOperator(u8),
-    /// 6: not met. The original has an error for a width code without a width, and all four codes have one.
+    /// 6, of the standard readings alone: values of this width code, 0 to 3 for 1, 2, 4 and 8 octets, are too wide for the list's type. TCP
+    /// flags have 1 octet or 2, DSCP values and fragment bits 1. The place is the operator octet's, and the value need not be there.
     InvalidValueLength(u8),
     /// 7: a rule's body would have this many octets, and 4,095 is the most.
     ValueTooLarge(usize),
@@ -353,7 +355,12 @@ impl Display for Reason {
             Reason::InvalidOperator(octet) => {
                 write!(f, "a reserved bit is set in operator octet 0x{octet:02X}")
             }
-            Reason::InvalidValueLength(code) => write!(f, "no width has code {code}"),
+            // The code is two bits.
+            Reason::InvalidValueLength(code) => write!(
+                f,
+                "a value of {} octets (width code {code}) is too wide for its type",
+                1 << (code & 3)
+            ),
             Reason::ValueTooLarge(length) => {
                 write!(f, "the rule's body has {length} octets, and 4095 is the most")
             }

@@ -18,7 +18,7 @@ pub struct NumericOperator {
     pub end_of_list: bool,
     /// The AND bit (0x40). The name is the original's; the RFC joins an operator to the previous one.
     pub and_with_next: bool,
-    /// The octets of the value: 1, 2, 4 or 8 (0x30).
+    /// The octets of the value: 1, 2, 4 or 8 (0x30). By the standard a DSCP value has 1.
     pub value_length: u8,
     /// True of numbers less than the value (0x04).
     pub less_than: bool,
@@ -45,7 +45,7 @@ pub struct BitmaskOperator {
     pub end_of_list: bool,
     /// The AND bit (0x40). The name is the original's; the RFC joins an operator to the previous one.
     pub and_with_next: bool,
-    /// The octets of the value: 1, 2, 4 or 8 (0x30).
+    /// The octets of the value: 1, 2, 4 or 8 (0x30). By the standard TCP flags have 1 or 2, fragment bits 1.
     pub value_length: u8,
     /// Whether the answer is inverted (0x02).
     pub not: bool,

@@ -52,11 +52,12 @@ impl TryFrom<u8> for Family {
 /// Reads a rule by the RFCs: the rule, and how many octets it took. Those that follow belong to someone else.
 ///
 /// Reserved operator bits and AND on a list's first operator are ignored and read as 0, and so are a prefix's bits outside its range. A
-/// prefix of IPv6 has the form with an offset.
+/// prefix of IPv6 has the form with an offset. TCP flags have values of one octet or two, DSCP and fragments of one; the other lists have
+/// values of one, two, four or eight.
 ///
 /// # Errors
 ///
-/// The refusals 1 to 4, each with its [place](Refusal::place).
+/// The refusals 1 to 4 and 6, each with its [place](Refusal::place).
 ///
 /// ```
 /// use krubbadin::{read, Family, FlowSpecComponent, Reason};
@@ -69,6 +70,18 @@ impl TryFrom<u8> for Family {
 /// assert_eq!(refusal.reason(), Reason::InvalidComponentOrder { expected_greater_than: 3, found: 3 });
 /// assert_eq!(refusal.place(), Some(4));
 /// ```
+///
+/// A value that is too wide for its type is refused at its operator octet. The plain reading takes every width:
+///
+/// ```
+/// use krubbadin::{parse_flowspec_nlri, read, Family, Reason};
+///
+/// let input = [0x04, 0x0B, 0x91, 0x00, 0x2E]; // DSCP 46 in two octets
+/// let refusal = read(Family::Ipv4, &input).unwrap_err();
+/// assert_eq!((refusal.reason(), refusal.place()), (Reason::InvalidValueLength(1), Some(2)));
+/// assert_eq!(refusal.to_string(), "octet 2: a value of 2 octets (width code 1) is too wide for its type");
+/// assert_eq!(parse_flowspec_nlri(&input).unwrap().to_string(), "DSCP =46");
+/// ```
 pub fn read(family: Family, input: &[u8]) -> Result<(FlowSpecNlri, usize), Refusal> {
     read_rule(1, family.number(), input)
 }
@@ -80,7 +93,7 @@ pub fn read(family: Family, input: &[u8]) -> Result<(FlowSpecNlri, usize), Refus
 ///
 /// # Errors
 ///
-/// The refusals 1 to 4, each with its [place](Refusal::place).
+/// The refusals 1 to 4 and 6, each with its [place](Refusal::place).
 ///
 /// ```
 /// use krubbadin::{check, Family, Reason, Refusal};
@@ -100,8 +113,8 @@ pub fn check(family: Family, input: &[u8]) -> Result<usize, Refusal> {
 /// # Errors
 ///
 /// `BadRecord` for a rule that the family does not know: types that do not rise, a prefix of the wrong form or with bits outside its
-/// range, an empty list, an end mark missing or in the wrong place, AND on a first operator, a value too large for its width; [`why`](crate::why())
-/// says which. `ValueTooLarge` for a body of more than 4,095 octets.
+/// range, an empty list, an end mark missing or in the wrong place, AND on a first operator, a value too large for its width, a width that
+/// [`read`] refuses for the type; [`why`](crate::why()) says which. `ValueTooLarge` for a body of more than 4,095 octets.
 ///
 /// ```
 /// use krubbadin::{read, write, Family, Reason};

@@ -242,7 +242,8 @@ mod exported {
 /// family; else the standard one in the family, 4 or 6.
 ///
 /// Accepted: the octets used, and how many operators there are. Places past the last one filled stay. Refusals: 8 (plain) or 11 (standard),
-/// then 1 to 5 as the walk meets them, each with its place, then 9 with the places needed. A refusal changes nothing.
+/// then 1 to 4 and 5 (plain) or 6 (standard) as the walk meets them, each with its place, then 9 with the places needed. A refusal changes
+/// nothing.
 ///
 /// ```
 /// use krubbadin::surface::{read, COUNT};
@@ -331,7 +332,7 @@ pub(crate) fn read_anew<'a>(
 /// looks at no family; else by the standard one in the family, 4 or 6.
 ///
 /// Accepted: the octets used, and how many operators there are, which is how many places [`read`] needs in each list. Refusals: 8 (plain)
-/// or 11 (standard), then 1 to 5 as the walk meets them, each with its place; never 9.
+/// or 11 (standard), then 1 to 4 and 5 (plain) or 6 (standard) as the walk meets them, each with its place; never 9.
 ///
 /// ```
 /// use krubbadin::surface::check;
@@ -343,6 +344,8 @@ pub(crate) fn read_anew<'a>(
 /// assert_eq!((answer.status, answer.place), (1, 8));
 /// let answer = check(1, 5, &input);
 /// assert_eq!((answer.status, answer.first), (11, 5));
+/// let answer = check(1, 4, &[0x02, 0x0B, 0x91]); // a DSCP value of two octets, of which none is there
+/// assert_eq!((answer.status, answer.first, answer.place), (6, 1, 2));
 /// ```
 #[inline]
 pub fn check(standard: u8, family: u8, input: &[u8]) -> Answer {

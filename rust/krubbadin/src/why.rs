@@ -108,6 +108,17 @@ pub enum Ground {
         /// The octets of its value.
         width: u8,
     },
+    /// A value has more octets than its type takes by the standard: TCP flags take 1 or 2, DSCP values and fragment bits 1.
+    TooWide {
+        /// The component's place.
+        component: usize,
+        /// The operator's place in its list.
+        operator: usize,
+        /// The octets of its value.
+        width: u8,
+        /// The most octets that its type takes.
+        most: u8,
+    },
     /// A width that is not 1, 2, 4 or 8.
     Width {
         /// The component's place.
@@ -215,6 +226,14 @@ impl Display for Ground {
                 width,
             } => {
                 write!(f, "component {component} has a value at operator {operator} that does not fit {width} octets")
+            }
+            Ground::TooWide {
+                component,
+                operator,
+                width,
+                most,
+            } => {
+                write!(f, "component {component} has a value of {width} octets at operator {operator}, and {most} is the most in its type")
             }
             Ground::Width { component, width } => {
                 write!(f, "component {component} has a value of {width} octets, and 1, 2, 4 and 8 are the widths")
@@ -427,8 +446,17 @@ impl Writing<'_> {
         if octets[0] & 0x40 != 0 {
             return Ground::FirstAnd { component };
         }
+        let most = most_octets(kind);
         for (operator, (&value, &octet)) in values.iter().zip(octets).enumerate() {
             let width = 1 << (octet >> 4 & 3);
+            if width > most {
+                return Ground::TooWide {
+                    component,
+                    operator,
+                    width,
+                    most,
+                };
+            }
             if width < 8 && value >> (8 * width) != 0 {
                 return Ground::Value {
                     component,
@@ -444,6 +472,15 @@ impl Writing<'_> {
             }
         }
         Ground::NoEnd { component }
+    }
+}
+
+/// The most octets of a value in a list of this type by the standard (RFC 8955, 4.2.2.9, 4.2.2.11 and 4.2.2.12).
+fn most_octets(kind: u64) -> u8 {
+    match kind {
+        9 => 2,
+        11 | 12 => 1,
+        _ => 8,
     }
 }
 

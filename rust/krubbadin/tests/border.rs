@@ -186,6 +186,7 @@ fn at_guard_pages() -> Calls {
     let mut random = Random::new(5);
     let mut border = Border::new();
     let mut calls = Calls::default();
+    calls.add(border.too_wide());
     for _ in 0..TURNS {
         calls.add(border.read(&mut random));
         calls.add(border.check(&mut random));
@@ -267,6 +268,34 @@ impl Border {
             self.input.unchanged("check, input");
             (answer, ())
         })
+    }
+
+    /// An input that ends with the operator octet of a value that is too wide: nothing is looked for behind it.
+    fn too_wide(&mut self) -> Calls {
+        let mut calls = Calls::default();
+        let wider = |(kind, most): (u8, u8)| (most + 1..4).map(move |code| (kind, code));
+        for (kind, code) in [(9, 1), (11, 0), (12, 0)].into_iter().flat_map(wider) {
+            for before in [&[kind][..], &[kind, 0x01, 0x05]] {
+                let input = inputs::framed(&[before, &[0x81 | code << 4]].concat());
+                let wanted = Answer {
+                    status: 6,
+                    first: u64::from(code),
+                    second: 0,
+                    place: input.len() as u64 - 1,
+                };
+                for family in [4, 6] {
+                    calls.add(twice(|side| {
+                        self.input.put(&input, side);
+                        let input = self.input.list();
+                        let read = surface::read(1, family, input, &mut [], &mut [], &mut []);
+                        assert_eq!((surface::check(1, family, input), read), (wanted, wanted));
+                        self.input.unchanged("too wide, input");
+                        (read, ())
+                    }));
+                }
+            }
+        }
+        calls
     }
 
     fn write(&mut self, random: &mut Random) -> Calls {

@@ -121,6 +121,22 @@ fn random_inputs_are_checked_as_they_are_read() {
 }
 
 #[test]
+fn values_too_wide_are_refused_by_the_standard_checks_alone() {
+    let whole = [0x04, 0x0B, 0x91, 0x00, 0x2E];
+    let cut = [0x02, 0x0B, 0x91];
+    for family in [Family::Ipv4, Family::Ipv6] {
+        for input in [&whole[..], &cut] {
+            let refused = Refusal::at(Reason::InvalidValueLength(1), 2);
+            assert_eq!(check(family, input), Err(refused));
+            assert_eq!(read_used(family, input), Err(refused));
+        }
+    }
+    assert_eq!(check_flowspec_nlri(&whole), Ok(5));
+    let missing = Err(FlowSpecError::InsufficientData);
+    assert_eq!(check_flowspec_nlri(&cut), missing);
+}
+
+#[test]
 fn what_follows_the_longest_nlri_changes_nothing() {
     let mut random = Random::new(10);
     let mut input = Vec::new();

@@ -7,6 +7,7 @@ use krubbadin::*;
 use Form::{Plain, Standard};
 
 const FORMS: [Form; 3] = [Plain, Standard(4), Standard(6)];
+const STANDARD: [Form; 2] = [Standard(4), Standard(6)];
 
 /// What a check answers, which every other call must say too.
 fn answer(form: Form, input: &[u8]) -> Answer {
@@ -135,7 +136,7 @@ fn a_wrong_octet_has_its_place() {
         expected_greater_than,
         found,
     };
-    let cases: [(&[Form], &str, Reason, usize); 32] = [
+    let cases: [(&[Form], &str, Reason, usize); 41] = [
         // The type octet.
         (&FORMS, "01 00", order(0, 0), 1),
         (&FORMS, "F0 01 00", order(0, 0), 2),
@@ -187,6 +188,22 @@ fn a_wrong_octet_has_its_place() {
         (&[Plain], "05 0C 01 01 88 01", InvalidOperator(0x88), 4),
         (&[Plain], "01 03 89 06", InvalidOperator(0x89), 2),
         (&[Plain], "02 03 01 06 89 06", InvalidOperator(0x89), 4),
+        // The operator octet whose value is too wide, be that there or not.
+        (&STANDARD, "02 0B 91", InvalidValueLength(1), 2),
+        (&STANDARD, "04 0B 91 00 2E", InvalidValueLength(1), 2),
+        (&STANDARD, "F0 02 0C B1", InvalidValueLength(3), 3),
+        (&STANDARD, "02 09 A1 00 00 00 02", InvalidValueLength(2), 2),
+        (&STANDARD, "04 0B 01 0A 91", InvalidValueLength(1), 4),
+        (
+            &STANDARD,
+            "09 09 11 01 00 A1 00 00 00 02",
+            InvalidValueLength(2),
+            5,
+        ),
+        (&STANDARD, "05 03 81 06 0C D1", InvalidValueLength(1), 5),
+        // Reserved bits are not looked at first.
+        (&STANDARD, "04 0B 99 00 2E", InvalidValueLength(1), 2),
+        (&[Plain], "04 0B 99 00 2E", InvalidOperator(0x99), 2),
     ];
     for (forms, text, reason, place) in cases {
         for &form in forms {
@@ -215,6 +232,36 @@ fn each_operator_of_a_long_list_has_its_place() {
                 let refused = answer(Plain, &restated(&bad[..=place], place)).accepted();
                 assert_eq!(refused, Err(missing_at(place + 1)));
                 place += 1 + width;
+            }
+        }
+    }
+}
+
+/// The same of widths, by the standard readings: a list is good up to the operator whose value is too wide, and that value need not be there.
+#[test]
+fn each_operator_of_a_long_list_may_be_too_wide() {
+    for (kind, code) in [(9, 1), (11, 0), (12, 0)] {
+        for length in [31, 237, 239, 241, 701] {
+            let good = inputs::framed(&inputs::list_of(kind, length, code));
+            for form in STANDARD {
+                assert_eq!(answer(form, &good).status, 0);
+                let mut place = good.len() - length + 1;
+                while place < good.len() {
+                    let width = 1 << (good[place] >> 4 & 3);
+                    for wider in code + 1..4 {
+                        let mut bad = good.clone();
+                        bad[place] = bad[place] & 0xCF | wider << 4;
+                        let reason = Reason::InvalidValueLength(wider);
+                        let refused = Err(Refusal::at(reason, place));
+                        assert_eq!(answer(form, &bad).accepted(), refused);
+                        let cut = restated(&bad[..=place], place + 1);
+                        assert_eq!(answer(form, &cut).accepted(), refused);
+                        // The octet itself must be there.
+                        let cut = restated(&bad, place);
+                        assert_eq!(answer(form, &cut).accepted(), Err(missing_at(place)));
+                    }
+                    place += 1 + width;
+                }
             }
         }
     }
@@ -323,6 +370,13 @@ fn placed(form: Form, input: &[u8], random: &mut Random) -> usize {
             let then = answer_of(&cleared);
             assert!(then.status == 0 || then.place > said.place, "{told}");
         }
+        6 => {
+            assert!(form != Plain && at(place) >> 4 & 3 == said.first, "{told}");
+            let mut narrow = input.to_vec();
+            narrow[place] &= 0xCF;
+            let then = answer_of(&narrow);
+            assert!(then.status == 0 || then.place > said.place, "{told}");
+        }
         _ => panic!("{told}"),
     }
     let mut other = input.to_vec();
@@ -362,10 +416,12 @@ fn the_place_is_exact_of_random_inputs() {
     }
 }
 
-/// That each answer of a reading was met, by number, and often enough.
+/// That each answer of a reading was met, by number, and often enough, and none that is another's.
 fn all_met(form: Form, met: [u32; 9]) {
-    let most = if form == Plain { 5 } else { 4 };
-    assert!(met[..=most].iter().all(|&count| count > 100), "{met:?}");
+    let (own, other) = if form == Plain { (5, 6) } else { (6, 5) };
+    let often = |&status: &usize| met[status] > 100;
+    assert!([0, 1, 2, 3, 4, own].iter().all(often), "{met:?}");
+    assert_eq!(met[other], 0, "{met:?}");
 }
 
 #[test]
@@ -465,6 +521,10 @@ fn the_place_is_said_in_words() {
         "octet 2: a prefix's length or offset is out of range"
     );
     assert_eq!(text(Family::Ipv4, &[]), "octet 0: octets are missing");
+    assert_eq!(
+        text(Family::Ipv6, &inputs::octets("04 0B 01 0A 91")),
+        "octet 4: a value of 2 octets (width code 1) is too wide for its type"
+    );
     let plain = answer(Plain, &inputs::octets("03 03 89 06")).accepted();
     assert_eq!(
         plain.unwrap_err().to_string(),

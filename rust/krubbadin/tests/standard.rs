@@ -305,6 +305,70 @@ fn each_refusal_is_met_where_it_belongs() {
     assert_eq!(choose(&table, &six), Ok(None));
 }
 
+/// Every list with a first and with a second value of each width: what is too wide for its type is refused by all standard calls, and
+/// by nothing else.
+#[test]
+fn a_type_has_its_widths() {
+    let packet_of = |family| match family {
+        Family::Ipv4 => Packet::new([10, 1, 2, 3], [192, 0, 2, 1]),
+        Family::Ipv6 => Packet::new([1; 16], [2; 16]),
+    };
+    for family in FAMILIES {
+        let packet = packet_of(family);
+        let every = FlowSpecNlri::new(vec![]);
+        for kind in (3..=13).filter(|&kind| (kind, family) != (13, Family::Ipv4)) {
+            for code in 0..4u8 {
+                let value = vec![0; 1 << code];
+                let operators = [
+                    [&[0x80 | code << 4][..], &value].concat(),
+                    [&[0x01, 0x05, 0x80 | code << 4][..], &value].concat(),
+                ];
+                for (before, operators) in [0, 2].into_iter().zip(operators) {
+                    let input = inputs::framed(&[&[kind], &operators[..]].concat());
+                    let rule = parse_flowspec_nlri(&input).unwrap();
+                    assert_eq!(encode_flowspec_nlri(&rule).unwrap(), input);
+                    assert_eq!(check_flowspec_nlri(&input), Ok(input.len()));
+                    let mut table = Table::new();
+                    let most = match kind {
+                        9 => 1,
+                        11 | 12 => 0,
+                        _ => 3,
+                    };
+                    if code <= most {
+                        assert_eq!(read(family, &input), Ok((rule.clone(), input.len())));
+                        assert_eq!(write(family, &rule).unwrap(), input);
+                        assert_eq!(table.push(family, &rule), Ok(()));
+                        assert!(matches(family, &rule, &packet).is_ok());
+                        assert!(rank(family, &rule, &every).is_ok());
+                        assert_eq!(why(family, &rule), None);
+                        continue;
+                    }
+                    let refused = Refusal::at(Reason::InvalidValueLength(code), 2 + before);
+                    assert_eq!(read(family, &input), Err(refused));
+                    assert_eq!(check(family, &input), Err(refused));
+                    assert_eq!(table.read(family, &input), Err(refused));
+                    let error = FlowSpecError::InvalidValueLength(code);
+                    assert_eq!(FlowSpecError::try_from(refused), Ok(error));
+                    let bad = Refusal::from(Reason::BadRecord);
+                    assert_eq!(write(family, &rule), Err(bad));
+                    assert_eq!(table.push(family, &rule), Err(bad));
+                    assert_eq!(matches(family, &rule, &packet), Err(bad));
+                    assert_eq!(rank(family, &rule, &every), Err(bad));
+                    assert_eq!(precedes(family, &every, &rule), Err(bad));
+                    let ground = Ground::TooWide {
+                        component: 0,
+                        operator: before / 2,
+                        width: 1 << code,
+                        most: 1 << most,
+                    };
+                    assert_eq!(why(family, &rule), Some(ground));
+                    assert!(table.is_empty());
+                }
+            }
+        }
+    }
+}
+
 #[test]
 fn errors_of_a_first_type_and_of_a_family_say_so() {
     let text = |family, input: &[u8]| read(family, input).unwrap_err().to_string();
@@ -322,6 +386,14 @@ fn errors_of_a_first_type_and_of_a_family_say_so() {
     for family in FAMILIES {
         let other = "octet 1: no component has type 14: types are 1 to 13";
         assert_eq!(text(family, &[0x01, 0x0E]), other);
+    }
+    for (code, octets) in [(1, 2), (2, 4), (3, 8)] {
+        let wide = [0x02, 0x0C, 0x81 | code << 4];
+        let said = format!(
+            "octet 2: a value of {octets} octets (width code {code}) is too wide for its type"
+        );
+        assert_eq!(text(Family::Ipv4, &wide), said);
+        assert_eq!(text(Family::Ipv6, &wide), said);
     }
     // The original's error has the original's text, and no place.
     let error = parse_flowspec_nlri(&[0x01, 0x0E]).unwrap_err();
@@ -342,8 +414,8 @@ fn a_rule_prints_in_one_line() {
         "port false or =1 or >2 and >=3 or <4 and <=5 or !=6 or true"
     );
     assert_eq!(
-        list(12, &[0x00, 1, 0x41, 2, 0x02, 4, 0x93, 0x12, 0x34]),
-        "fragment any 0x01 and all 0x02 or not any 0x04 or not all 0x1234"
+        list(9, &[0x00, 1, 0x41, 2, 0x02, 4, 0x93, 0x12, 0x34]),
+        "TCP flags any 0x01 and all 0x02 or not any 0x04 or not all 0x1234"
     );
     let names = [
         "protocol",
@@ -398,7 +470,7 @@ fn an_error_says_what_it_carries() {
         (Reason::InvalidComponentType(103), vec!["103"]),
         (Reason::InvalidPrefix, vec![]),
         (Reason::InvalidOperator(0xAB), vec!["0xAB"]),
-        (Reason::InvalidValueLength(104), vec!["104"]),
+        (Reason::InvalidValueLength(3), vec!["3", "8 octets"]),
         (Reason::ValueTooLarge(5105), vec!["5105", "4095"]),
         (Reason::InputTooLong(5106), vec!["5106", "4097"]),
         (Reason::NoRoom(107), vec!["107"]),

@@ -268,6 +268,45 @@ fn each_ground_is_the_one_that_is_meant() {
             },
         ),
         (
+            Lent::new(4, &[list(11, 0, 1)], &[(0x91, 6)]),
+            4,
+            TooWide {
+                component,
+                operator: 0,
+                width: 2,
+                most: 1,
+            },
+        ),
+        (
+            Lent::new(6, &[list(3, 0, 1), list(12, 0, 2)], &[SIX, (0xB1, 6)]),
+            6,
+            EarlyEnd {
+                component: 1,
+                operator: 0,
+            },
+        ),
+        (
+            Lent::new(6, &[list(12, 0, 2)], &[(0x01, 6), (0xF1, u64::MAX)]),
+            6,
+            TooWide {
+                component,
+                operator: 1,
+                width: 8,
+                most: 1,
+            },
+        ),
+        // Before the same value is found too large.
+        (
+            Lent::new(4, &[ten, list(9, 0, 2)], &[(0x11, 6), (0xA1, 1 << 40)]),
+            4,
+            TooWide {
+                component: 1,
+                operator: 1,
+                width: 4,
+                most: 2,
+            },
+        ),
+        (
             Lent::new(4, &[list(13, 0, 1)], &[SIX]),
             4,
             Type {
@@ -361,6 +400,16 @@ fn owned_rules_have_their_grounds() {
     assert_eq!(why(Family::Ipv4, &rule), Some(odd));
     let rule = FlowSpecNlri::new(vec![list(1); 14]);
     assert_eq!(why(Family::Ipv6, &rule), Some(Ground::Components(14)));
+    // The least width of a mask may be wider than fragment bits are.
+    let mask = vec![BitmaskOperator::partial_match(0x100)];
+    let flags = FlowSpecNlri::new(vec![FlowSpecComponent::TcpFlags(mask.clone())]);
+    assert_eq!(why(Family::Ipv4, &flags), None);
+    let rule = FlowSpecNlri::new(vec![list(1), FlowSpecComponent::Fragment(mask)]);
+    let ground = why(Family::Ipv4, &rule).unwrap();
+    assert_eq!(
+        ground.to_string(),
+        "component 1 has a value of 2 octets at operator 0, and 1 is the most in its type"
+    );
     for (family, prefix) in [(Family::Ipv4, "::/0"), (Family::Ipv6, "0.0.0.0/0")] {
         let component = FlowSpecComponent::SourcePrefix(prefix.parse().unwrap());
         let rule = FlowSpecNlri::new(vec![component]);

@@ -13,7 +13,7 @@
 use crate::packets::Packet;
 use crate::refusals::Refusal;
 use crate::rules::{Address, Component, Content, Flow, Operator, Prefix, Rule};
-use crate::terms::{is_ipv6_range, width, BODY, COMPONENTS, OPERATORS, RULES};
+use crate::terms::{code, is_ipv6_range, most_code, width, BODY, COMPONENTS, OPERATORS, RULES};
 use crate::terms::{AND, END, EQUAL, GREATER, LESS, MATCH, NOT};
 use std::cmp::Ordering;
 
@@ -105,9 +105,10 @@ pub fn list_octets(family: u8, kind: u8, list: impl Iterator<Item = Operator>) -
         return None;
     }
     let (mut octets, mut ended) = (1, false);
+    let most = most_code(kind);
     for (place, Operator { octet, value }) in list.enumerate() {
         let width = width(octet);
-        let fits = width == 8 || value >> (8 * width) == 0;
+        let fits = code(octet) <= most && (width == 8 || value >> (8 * width) == 0);
         if ended || !fits || (place == 0 && octet & AND != 0) {
             return None;
         }

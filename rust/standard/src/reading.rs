@@ -3,7 +3,8 @@
 use crate::octets::Octets;
 use crate::refusals::{Fault, Refusal};
 use crate::rules::{Address, Component, Content, Operator, Prefix, Rule};
-use crate::terms::{is_ipv6_range, kind_of, width, without_reserved, Family, Kind, AND, END};
+use crate::terms::{code, is_ipv6_range, kind_of, most_code, width, without_reserved};
+use crate::terms::{Family, Kind, AND, END};
 
 /// A rule that was read, and how many octets of the input its length field and its body took.
 #[derive(Debug, Clone, PartialEq, Eq)]
@@ -33,7 +34,7 @@ fn read_body(family: Family, mut body: Octets) -> Result<Vec<Component>, Fault> 
         let content = match (kind, family) {
             (Kind::Prefix, Family::Ipv4) => Content::Prefix(read_ipv4(&mut body)?),
             (Kind::Prefix, Family::Ipv6) => Content::Prefix(read_ipv6(&mut body)?),
-            _ => Content::List(read_list(kind, &mut body)?),
+            _ => Content::List(read_list(found, kind, &mut body)?),
         };
         components.push(Component {
             kind: found,
@@ -106,11 +107,16 @@ fn read_ipv6(octets: &mut Octets) -> Result<Prefix, Fault> {
 }
 
 /// RFC 8955, 4.2.1: operators with their values up to the one that has the end bit. Reserved bits
-/// are ignored, and so is AND on the first, which has none before it.
-fn read_list(kind: Kind, octets: &mut Octets) -> Result<Vec<Operator>, Fault> {
+/// are ignored, and so is AND on the first, which has none before it. A width that the type does not
+/// have is refused before its value is looked for.
+fn read_list(found: u8, kind: Kind, octets: &mut Octets) -> Result<Vec<Operator>, Fault> {
     let mut list = Vec::new();
     loop {
+        let place = octets.place();
         let mut octet = without_reserved(kind, octets.one()?);
+        if code(octet) > most_code(found) {
+            return Err(Refusal::InvalidValueLength(code(octet)).at(place));
+        }
         if list.is_empty() {
             octet &= !AND;
         }

@@ -13,6 +13,8 @@ pub enum Refusal {
     InvalidPrefix,
     /// 5, by the plain reading
     InvalidOperator(u8),
+    /// 6, by the standard reading, with the width code
+    InvalidValueLength(u8),
     /// 7, with the length of the body
     ValueTooLarge(usize),
     /// 8, by the plain reading, with the length of the input
@@ -29,7 +31,7 @@ pub enum Refusal {
     MixedFamily(usize),
 }
 
-/// Why a reading is refused and, for 1 to 5, the place of the wrong octet, counted from the start of
+/// Why a reading is refused and, for 1 to 6, the place of the wrong octet, counted from the start of
 /// the input (document 01, "What comes back").
 #[derive(Debug, Clone, Copy, PartialEq, Eq)]
 pub struct Fault {

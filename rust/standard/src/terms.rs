@@ -55,13 +55,28 @@ pub(crate) const OPERATORS: usize = 2047;
 pub(crate) const BODY: usize = 4095;
 pub(crate) const INPUT: usize = 4097;
 
+/// The code in an operator octet that stands for the width of its value.
+pub(crate) fn code(octet: u8) -> u8 {
+    (octet & 0x30) >> 4
+}
+
 /// How many octets the value behind an operator octet has.
 pub(crate) fn width(octet: u8) -> usize {
-    match (octet & 0x30) >> 4 {
+    match code(octet) {
         0 => 1,
         1 => 2,
         2 => 4,
         _ => 8,
+    }
+}
+
+/// The greatest width code of a type: TCP flags are a mask of one octet or two (RFC 8955, 4.2.2.9),
+/// DSCP values (4.2.2.11) and fragment masks (4.2.2.12) have one.
+pub(crate) fn most_code(kind: u8) -> u8 {
+    match kind {
+        9 => 1,
+        11 | 12 => 0,
+        _ => 3,
     }
 }
 

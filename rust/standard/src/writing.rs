@@ -2,7 +2,7 @@
 
 use crate::refusals::Refusal;
 use crate::rules::{Address, Component, Content, Operator, Prefix, Rule};
-use crate::terms::{is_ipv6_range, kind_of, width, without_reserved};
+use crate::terms::{code, is_ipv6_range, kind_of, most_code, width, without_reserved};
 use crate::terms::{Family, Kind, AND, BODY, COMPONENTS, END, OPERATORS};
 
 /// Writes a rule: its length and its body. The family is 4 or 6.
@@ -54,7 +54,9 @@ fn operators_in(component: &Component) -> usize {
 fn is_good_component(family: Family, component: &Component) -> bool {
     match (kind_of(family, component.kind), &component.content) {
         (Some(Kind::Prefix), Content::Prefix(prefix)) => is_good_prefix(family, prefix),
-        (Some(Kind::Numeric | Kind::Bitmask), Content::List(list)) => is_good_list(list),
+        (Some(Kind::Numeric | Kind::Bitmask), Content::List(list)) => {
+            is_good_list(component.kind, list)
+        }
         _ => false,
     }
 }
@@ -77,12 +79,16 @@ fn is_good_prefix(family: Family, prefix: &Prefix) -> bool {
     }
 }
 
-/// The last operator and no other has the end bit, the first has no AND, and each value fits.
-fn is_good_list(list: &[Operator]) -> bool {
+/// The last operator and no other has the end bit, the first has no AND, each width is one of the
+/// type's, and each value fits its own.
+fn is_good_list(kind: u8, list: &[Operator]) -> bool {
     let is_good = |(place, operator): (usize, &Operator)| {
         let ends = operator.octet & END != 0;
         let joins = operator.octet & AND != 0;
-        ends == (place + 1 == list.len()) && !(joins && place == 0) && fits(operator)
+        ends == (place + 1 == list.len())
+            && !(joins && place == 0)
+            && code(operator.octet) <= most_code(kind)
+            && fits(operator)
     };
     !list.is_empty() && list.iter().enumerate().all(is_good)
 }

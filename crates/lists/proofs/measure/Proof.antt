@@ -22,8 +22,8 @@ add-t13 c = omega (arith, alone-is _ _ (sym (c .before .alone .ensures) ∙ c .i
 returns-2 : tie.Need-returns-2
 returns-2 c = sym (alone-done _ _ _ _ (sym (c .before .alone .ensures) ∙ c .if2 .taken))
 
-returns-3 : tie.Need-returns-3
-returns-3 c = c .measure-on .ensures _ _ (c .before .limit .ensures ∙ rw (c .before .before .kind-of .ensures))
+measure-on-requires : tie.Need-measure-on-requires
+measure-on-requires c κs = c .limit .ensures ∙ rw (c .before .kind-of .ensures)
 
 pub measure-spec : {M : Type 1} → statement M
 measure-spec =
@@ -35,5 +35,5 @@ measure-spec =
     returns-2
     (λ c κs. search needs)
     (λ c κs. search needs)
-    (λ c κs. search needs)
-    returns-3)
+    measure-on-requires
+    (λ c. c .measure-on .ensures))

@@ -14,13 +14,13 @@ use Rattle.lists.proofs.measure_run.Reads as reads
 use Rattle.lists.proofs.measure_run.Lts as lts
 
 abbrev Inv-loop : tie.InvT-loop
-Inv-loop s at n code w bound i₀ c₀ i c = Passed bound s at n (ran c i false)
+Inv-loop s at n code w bound i₀ c₀ i c = Passed code bound s at n (ran c i false)
 
 abbrev μ-loop : tie.MeasureT-loop
 μ-loop s at n code w bound i₀ c₀ i c = length s - i
 
 loop-holds : tie.Need-loop-holds Inv-loop μ-loop
-loop-holds c = record { same = λ r t is-bound. refl; on = omega arith; place = c .pre .0 .place; within = c .pre .0 .within }
+loop-holds c = record { same = λ r t k. refl; on = omega arith; place = c .pre .0 .place; within = c .pre .0 .within }
 
 add-last : tie.Need-add-last Inv-loop μ-loop
 add-last c =
@@ -54,13 +54,13 @@ add-i : tie.Need-add-i Inv-loop μ-loop
 add-i c = omega (arith, turn-of c .before .good)
 
 returns-4 : tie.Need-returns-4 Inv-loop μ-loop
-returns-4 c = on-last (turn-of (c .before) .loop .inv) (wide (c .before)) (omega arith) (omega arith) (c .if4 .taken)
+returns-4 c = on-last (turn-of (c .before) .loop .inv) (c .before .before .if2 .left) (wide (c .before)) (omega arith) (omega arith) (c .if4 .taken)
 
 loop-less : tie.Need-loop-less Inv-loop μ-loop
 loop-less c = omega arith
 
 loop-again : tie.Need-loop-again Inv-loop μ-loop
-loop-again c = on-more (turn-of (c .before) .loop .inv) (wide (c .before)) (omega arith) (omega arith) (c .if4 .left)
+loop-again c = on-more (turn-of (c .before) .loop .inv) (c .before .before .if2 .left) (wide (c .before)) (omega arith) (omega arith) (c .if4 .left)
 
 pub measure-run-spec : {M : Type 1} → statement M
 measure-run-spec =

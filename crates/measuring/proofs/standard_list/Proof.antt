@@ -15,13 +15,13 @@ use Rattle.listwriting.proofs.taken_size.Reads as taken-size-reads
 returns : tie.Need-returns
 returns c =
     let a = c .before .before .before .args in
-    standard-empty (lent (a .values .now) (a .octets .now) (a .first)) (a .start) (a .count) (c .if1 .taken)
+    standard-empty (a .tag) (lent (a .values .now) (a .octets .now) (a .first)) (a .start) (a .count) (c .if1 .taken)
 
 returns-2 : tie.Need-returns-2
 returns-2 c =
     let i = c .before in
     let a = i .before .before .before .before .args in
-    standard-outside (lent (a .values .now) (a .octets .now) (a .first)) (a .start) (a .count) (told-false (i .inside .ensures) (c .if2 .taken))
+    standard-outside (a .tag) (lent (a .values .now) (a .octets .now) (a .first)) (a .start) (a .count) (told-false (i .inside .ensures) (c .if2 .taken))
 
 add-taken-size : tie.Need-add-taken-size
 add-taken-size c =
@@ -53,7 +53,7 @@ returns-3 c =
     let a = n .before .before .before .args in
     let l = lent (a .values .now) (a .octets .now) (a .first) in
     let s = told-true (i .inside .ensures) (e .if2 .left) in
-    standard-not l (a .start) (a .count) s (omega arith) (c .before .taken-size .ensures) (c .if3 .taken)
+    standard-not (a .tag) l (a .start) (a .count) s (omega arith) (c .before .taken-size .ensures) (c .if3 .taken)
 
 add-result : tie.Need-add-result
 add-result c =
@@ -63,7 +63,7 @@ add-result c =
     let a = n .before .before .before .args in
     let l = lent (a .values .now) (a .octets .now) (a .first) in
     let s = told-true (i .inside .ensures) (e .if2 .left) in
-    omega (arith, taken-most l (a .start) (a .count) s (omega arith) (c .before .taken-size .ensures))
+    omega (arith, taken-most (a .tag) l (a .start) (a .count) s (omega arith) (c .before .taken-size .ensures))
 
 returns-4 : tie.Need-returns-4
 returns-4 c =
@@ -73,7 +73,7 @@ returns-4 c =
     let a = n .before .before .before .args in
     let l = lent (a .values .now) (a .octets .now) (a .first) in
     let s = told-true (i .inside .ensures) (e .if2 .left) in
-    standard-inside l (a .start) (a .count) s (omega arith) (c .before .taken-size .ensures) (c .if3 .left)
+    standard-inside (a .tag) l (a .start) (a .count) s (omega arith) (c .before .taken-size .ensures) (c .if3 .left)
 
 pub standard-list-spec : {M : Type 1} → statement M
 standard-list-spec =

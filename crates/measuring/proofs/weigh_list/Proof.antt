@@ -50,7 +50,7 @@ returns-2 c =
     let l = lent (a .values .now) (a .octets .now) (a .first) in
     let f = told-true (m .may-follow .ensures) (e .if1 .left) in
     let u = not-plain (a .writing) (λ z. not-later (rw z at (k .match .keys2))) in
-    c .lone-list .ensures ∙ ap (λ (n : ℕ). standardWeight l (a .start) n) (sym (t .if2 .taken))
+    c .lone-list .ensures ∙ ap (λ (n : ℕ). standardWeight (a .tag) l (a .start) n) (sym (t .if2 .taken))
     ∙ sym (weight-standard (a .writing) l (a .left) (a .previous) (a .tag) (a .start) (a .count) u f)
 
 standard-list-requires : tie.Need-standard-list-requires

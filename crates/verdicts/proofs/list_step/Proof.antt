@@ -25,7 +25,7 @@ returns c =
     not-taken _ _ _ (g .args .met) (holds g) (m .list-weight .ensures) (c .if1 .taken)
 
 -- its places in the lent lists
-within : (c : tie.Then2) → let a = c .before .before .before .before .before .before .args in Listed (lent (a .values .now) (a .octets .now) (a .first)) (a .start) (a .count)
+within : (c : tie.Then2) → let a = c .before .before .before .before .before .before .args in Listed (a .tag) (lent (a .values .now) (a .octets .now) (a .first)) (a .start) (a .count)
 within c =
     let e = c .before in
     let m = e .before in

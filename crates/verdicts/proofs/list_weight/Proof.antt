@@ -26,7 +26,7 @@ returns c =
 -- a list that may follow adds what the standard writing says, by its number of operators
 module _ (e : tie.Else1) where
   taken : let a = e .before .before .before .before .args in
-      standardWeight (lent (a .values .now) (a .octets .now) (a .first)) (a .start) (a .count)
+      standardWeight (a .tag) (lent (a .values .now) (a .octets .now) (a .first)) (a .start) (a .count)
       ≡ weightOf (a .writing) (lent (a .values .now) (a .octets .now) (a .first)) (a .left) (a .previous) (Operators (a .tag) (a .start) (a .count))
   taken =
       let m = e .before in
@@ -36,11 +36,11 @@ module _ (e : tie.Else1) where
       (not-plain (a .writing) (g .pre .0)) (told-true (m .may-follow .ensures) (e .if1 .left)))
 
   counted : let a = e .before .before .before .before .args in (n : ℕ) → a .count ≡ n →
-      standardWeight (lent (a .values .now) (a .octets .now) (a .first)) (a .start) n
+      standardWeight (a .tag) (lent (a .values .now) (a .octets .now) (a .first)) (a .start) n
       ≡ weightOf (a .writing) (lent (a .values .now) (a .octets .now) (a .first)) (a .left) (a .previous) (Operators (a .tag) (a .start) (a .count))
   counted n h =
       let a = e .before .before .before .before .args in
-      ap (λ (k : ℕ). standardWeight (lent (a .values .now) (a .octets .now) (a .first)) (a .start) k) (sym h) ∙ taken
+      ap (λ (k : ℕ). standardWeight (a .tag) (lent (a .values .now) (a .octets .now) (a .first)) (a .start) k) (sym h) ∙ taken
 
 returns-2 : tie.Need-returns-2
 returns-2 c = let t = c .before in c .lone-list .ensures ∙ counted (t .before) 1 (t .if2 .taken)
