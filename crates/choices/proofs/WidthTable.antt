@@ -1,5 +1,4 @@
--- The table of widths: every type takes one octet, none takes more than the four codes, and fewer are taken by three types alone, in the
--- standard readings.
+-- The table of widths: every type takes code 0, none more than the four codes, and three types alone take fewer, in the standard readings.
 use Prim.Native.Nat.{ℕ, _^_, _≤_, _<_}
 use mathlib.Core.Path.{_≡_, sym}
 use mathlib.Core.Bool.{true, false, _||_}
@@ -16,20 +15,30 @@ use Rattle.choices.specs.Choices.{codesBy, codesIn}
 abbrev pub Fixed : ℕ → Type 0
 Fixed t = (t ≡ 9) ⊎ ((t ≡ 11) ⊎ (t ≡ 12))
 
-record Row (t : ℕ) : Type 0 where
+-- a bound is a power of two, so that codes are below it where their bits joined are
+pub record Row (t : ℕ) : Type 0 where
   pub least : 1 ≤ codesBy t
   pub most : codesBy t ≤ 4
   pub fixed : codesBy t < 4 → Fixed t
+  pub exponent : ℕ
+  pub power : codesBy t ≡ 2 ^ exponent
 
-row : (t : ℕ) → Row t
+pub row : (t : ℕ) → Row t
 row t =
     by-test (eqb t 9)
-    (λ a. record { least = rw a (omega arith); most = rw a (omega arith); fixed = λ h. inl (eqb-true t 9 a) })
+    (λ a. record { least = rw a (omega arith); most = rw a (omega arith); fixed = λ h. inl (eqb-true t 9 a); exponent = 1; power = rw a })
     (λ a. by-test (eqb t 11)
-    (λ b. record { least = rw (a, b) (omega arith); most = rw (a, b) (omega arith); fixed = λ h. inr (inl (eqb-true t 11 b)) })
+    (λ b. record { least = rw (a, b) (omega arith); most = rw (a, b) (omega arith); fixed = λ h. inr (inl (eqb-true t 11 b)); exponent = 0; power = rw (a, b) })
     (λ b. by-test (eqb t 12)
-    (λ c. record { least = rw (a, b, c) (omega arith); most = rw (a, b, c) (omega arith); fixed = λ h. inr (inr (eqb-true t 12 c)) })
-    (λ c. record { least = rw (a, b, c) (omega arith); most = rw (a, b, c) (omega arith); fixed = λ h. let k : 4 < 4 = rw (a, b, c) at h in absurd (omega arith) })))
+    (λ c. record { least = rw (a, b, c) (omega arith); most = rw (a, b, c) (omega arith); fixed = λ h. inr (inr (eqb-true t 12 c)); exponent = 0; power = rw (a, b, c) })
+    (λ c.
+    record {
+      least = rw (a, b, c) (omega arith);
+      most = rw (a, b, c) (omega arith);
+      fixed = λ h. let k : 4 < 4 = rw (a, b, c) at h in absurd (omega arith);
+      exponent = 2;
+      power = rw (a, b, c);
+    })))
 
 -- the types below 9 and lengths take all four codes, and every type code 0
 pub none-wide : (t code : ℕ) → code < 4 → ((ltb t 9 || eqb t 10) || eqb code 0) ≡ true → false ≡ leb (codesBy t) code
@@ -42,21 +51,6 @@ none-wide t code l e =
   where
     all-codes : (t ≡ 9 → ⊥) → (t ≡ 11 → ⊥) → (t ≡ 12 → ⊥) → false ≡ leb (codesBy t) code
     all-codes p q r = rw (ne-eqb t 9 p, ne-eqb t 11 q, ne-eqb t 12 r) (sym (lt-leb 4 code l))
-
--- a bound is a power of two, so that codes are below it where their bits joined are
-pub record Power (t : ℕ) : Type 0 where
-  pub exponent : ℕ
-  pub is : codesBy t ≡ 2 ^ exponent
-
-pub power : (t : ℕ) → Power t
-power t =
-    by-test (eqb t 9)
-    (λ a. record { exponent = 1; is = rw a })
-    (λ a. by-test (eqb t 11)
-    (λ b. record { exponent = 0; is = rw (a, b) })
-    (λ b. by-test (eqb t 12)
-    (λ c. record { exponent = 0; is = rw (a, b, c) })
-    (λ c. record { exponent = 2; is = rw (a, b, c) })))
 
 pub codes-least : (r : Reading) (t : ℕ) → 1 ≤ codesIn r t
 codes-least Plain t = omega arith

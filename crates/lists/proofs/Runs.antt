@@ -22,7 +22,7 @@ use Rattle.operators.specs.Ops.{kindOf}
 use Rattle.lists.specs.declared.Tally.{Tally}
 use Rattle.lists.specs.Lists.{tally, plus, opAt, afterOp, tooWide, listAt}
 use Rattle.lists.specs.declared.Ran.{Ran}
-use Rattle.lists.specs.Runs.{rest, reached, Takes, Passed, lone, aloneAt}
+use Rattle.lists.specs.Runs.{rest, reached, Passed, lone, aloneAt}
 use Rattle.lists.proofs.Operators.{operator-taken}
 use Rattle.lists.proofs.Equations.{list-missing, list-wide, list-cut, list-refused, list-last, list-more}
 

@@ -17,7 +17,7 @@ use Rattle.ground.specs.Picks.{pick}
 use Rattle.octets.specs.Widths.{codeIn, widths, widthOf}
 use Rattle.octets.proofs.Widths.{width-range, width-most}
 use Rattle.choices.specs.Choices.{codesBy}
-use Rattle.choices.proofs.WidthTable.{power}
+use Rattle.choices.proofs.WidthTable.{row}
 use Rattle.operators.specs.Ops.{op}
 use Rattle.listwriting.specs.declared.Sum.{Sum}
 use Rattle.listwriting.specs.Lists.{sizeIn, fitsIn, ends, takes, narrow, oneSize}
@@ -329,9 +329,9 @@ pub pair-wide : (t o p v w : ℕ) → leb (codesBy t) (bitOr (codeIn o) (codeIn 
 unfolding narrow
 pair-wide t o p v w =
     let c = codesBy t in
-    let q = power t in
+    let q = row t in
     let e : ltb (bitOr (codeIn o) (codeIn p)) c ≡ (ltb (codeIn o) c && ltb (codeIn p) c) =
-    subst (λ (n : ℕ). ltb (bitOr (codeIn o) (codeIn p)) n ≡ (ltb (codeIn o) n && ltb (codeIn p) n)) (sym (q .is)) (or-below (q .exponent) (codeIn o) (codeIn p)) in
+    subst (λ (n : ℕ). ltb (bitOr (codeIn o) (codeIn p)) n ≡ (ltb (codeIn o) n && ltb (codeIn p) n)) (sym (q .power)) (or-below (q .exponent) (codeIn o) (codeIn p)) in
     not-leb c (bitOr (codeIn o) (codeIn p)) ∙ ap not (e ∙ ap (λ b. ltb (codeIn o) c && b) (sym (and-true (ltb (codeIn p) c))))
 
 pub code-join : (o p : ℕ) → bitOr (codeIn o) (codeIn p) < 4

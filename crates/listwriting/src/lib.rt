@@ -201,7 +201,8 @@ pub fn one_size(tag: u8, octet: u8, value: u64) -> usize
     2 + octets::stride(code)
 }
 
-// The same of a type and two operators, which a range of numbers is.
+// The same of a type and two operators, which a range of numbers is. The bound on codes is a power of two, so that both are below it where
+// their bits joined are.
 pub fn pair_size(tag: u8, octet: u8, value: u64, octet2: u8, value2: u64) -> usize
     ensures { λ r. ⌜ r ≡ pairSize tag octet value octet2 value2 ⌝ }
 {

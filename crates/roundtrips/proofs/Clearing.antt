@@ -21,7 +21,7 @@ use Rattle.operators.specs.Ops.{kindOf, clearedIn, Op, op, listOctets}
 use Rattle.lists.specs.Lists.{clearedOp, firstOp, recordedOps}
 use Rattle.lists.proofs.Laws.{recorded-none, recorded-first}
 use Rattle.listwriting.specs.Lists.{fitsIn, ends, narrow}
-use Rattle.listwriting.proofs.Laws.{ends-last, ends-more, narrow-none, narrow-first}
+use Rattle.listwriting.proofs.Laws.{ends-last, ends-more, narrow-first}
 use Rattle.roundtrips.proofs.Operators.{octets-more}
 
 -- ---- octets
