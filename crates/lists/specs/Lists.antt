@@ -45,8 +45,8 @@ lacksOctet s at = leb (length s) at
 abbrev pub lacksValue : List ℕ → ℕ → Bool
 lacksValue s at = ltb (length s - (at + 1)) (widthOf (getD s at 0))
 
--- an operator whose octet is there: 1 is "any octet missing before its bound", at that bound "also where part of a value is there"; "An
--- operator's value must be present before reserved bits are looked at", which are refused at the operator octet
+-- an operator whose octet is there, with a width that the type takes: 1 is "any octet missing before its bound", at that bound "also where part
+-- of a value is there"; "An operator's value must be present before reserved bits are looked at", which are refused at the operator octet
 unfoldable pub valueAt : Reading → ℕ → List ℕ → ℕ → Answer Op
 valueAt reading type s at =
     pick (lacksValue s at) (refusesAt 1 [] (length s))
