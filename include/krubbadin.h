@@ -26,10 +26,11 @@ extern "C" {
  * What a call answers. Status 0: accepted, and `first` and `second` are what the call says. Any other status is the number of a
  * refusal, and `first` and `second` are what it carries, 0 where it carries less.
  *
- * `place` says where a reading was refused, by 1 to 6: the place of the wrong octet, counted from 0 at the start of the input. That is the
- * type octet of 2 and 3, the prefix's length octet of 4, also where it is the offset that does not fit, and the operator octet of 5 and 6. An
- * octet that is missing, 1, has the place just past the end that it is missing before: the input's end in the length and in the plain
- * reading, the stated end in a standard one, or the input's where that comes first. Any other answer has KRUBBADIN_NOWHERE.
+ * `place` says where a reading was refused, by 1 to 6 or by 19: the place of the wrong octet, counted from 0 at the start of the input. That
+ * is the type octet of 2 and 3, the prefix's length octet of 4, also where it is the offset that does not fit, and the operator octet of 5
+ * and 6. An octet that is missing, 1, has the place just past the end that it is missing before: the input's end in the length and in the
+ * plain reading, the stated end in a standard one, or the input's where that comes first. 19, where octets of a distinguisher are missing,
+ * has the stated end. Any other answer has KRUBBADIN_NOWHERE.
  *
  * `place` joined the others later, and the struct is larger for it: an object that was compiled with a header without `place` must be
  * compiled again. Its source code compiles unchanged.
@@ -54,7 +55,8 @@ enum krubbadin_status {
     KRUBBADIN_INVALID_OPERATOR = 5,        /* plain only: a reserved bit is set; first: the operator octet */
     KRUBBADIN_INVALID_VALUE_LENGTH = 6,    /* standard krubbadin_read and krubbadin_check only: values of this width are too wide for the
                                               list's type, be the value there or not; first: the width code, 1 to 3 */
-    KRUBBADIN_VALUE_TOO_LARGE = 7,         /* a body of more than 4,095 octets; first: its octets, the length's own not counted */
+    KRUBBADIN_VALUE_TOO_LARGE = 7,         /* a body of more than 4,095 octets; first: its octets, a distinguisher's counted, the length's
+                                              own not */
     KRUBBADIN_INPUT_TOO_LONG = 8,          /* plain only: more than 4,097 octets; first: how many */
     KRUBBADIN_NO_ROOM = 9,                 /* too little was lent; first: the operator places that the whole rule needs (1 where fewer than 64
                                               words were lent: one rule place), or the octets of the whole NLRI */
@@ -62,7 +64,9 @@ enum krubbadin_status {
     KRUBBADIN_BAD_FAMILY = 11,             /* the family is not 4 or 6; first: the family */
     KRUBBADIN_TOO_MANY_RULES = 12,         /* more than 64 rules; first: how many */
     KRUBBADIN_BAD_PACKET = 13,             /* a field of the packet is out of range, or there are not 20 words; nothing */
-    KRUBBADIN_MIXED_FAMILY = 14            /* a rule of another family; first: the first such place */
+    KRUBBADIN_MIXED_FAMILY = 14,           /* a rule of another family; first: the first such place */
+    KRUBBADIN_SHORT_DISTINGUISHER = 19,    /* KRUBBADIN_WITH_DISTINGUISHER only: the stated length leaves fewer than eight octets; nothing */
+    KRUBBADIN_MIXED_DISTINGUISHER = 20     /* a rule of another distinguisher, none counting as its own; first: the first such place */
 };
 
 /* A status in words. The text is a constant: it is not to be freed. */
@@ -99,6 +103,10 @@ static inline const char *krubbadin_status_text(uint64_t status)
         return "a field of the packet is out of range";
     case KRUBBADIN_MIXED_FAMILY:
         return "a rule is of another family";
+    case KRUBBADIN_SHORT_DISTINGUISHER:
+        return "the rule ends before the eight octets of its distinguisher";
+    case KRUBBADIN_MIXED_DISTINGUISHER:
+        return "a rule has another distinguisher";
     default:
         return "unknown status";
     }
@@ -112,7 +120,12 @@ static inline const char *krubbadin_status_text(uint64_t status)
  *   52         how many components there are, at most 13
  *   53         the family: 0 as the plain reading leaves it, 4 or 6 as a standard one does; at most 255
  *   54         the place in the two lists where the rule's operators begin; a reading leaves 0
- *   55 to 63   0
+ *   55         whether the rule has a route distinguisher, 0 or 1
+ *   56         the distinguisher's eight octets as a number, the first the highest; 0 where there is none
+ *   57 to 63   0
+ *
+ * Rules of virtual networks, which BGP announces under subfamily 134, have a distinguisher (RFC 8955, 8). One of eight zero octets is there:
+ * word 55 is 1 and word 56 is 0. It plays no part in matching or in rank.
  *
  * A prefix, types 1 (destination) and 2 (source):
  *   0   type + 16 x form; forms: 0 IPv4, 1 IPv6, 2 IPv4 with an offset, 3 IPv6 with an offset
@@ -137,6 +150,8 @@ static inline const char *krubbadin_status_text(uint64_t status)
 #define KRUBBADIN_WORD_COUNT 52
 #define KRUBBADIN_WORD_FAMILY 53
 #define KRUBBADIN_WORD_FIRST 54
+#define KRUBBADIN_WORD_DISTINGUISHED 55
+#define KRUBBADIN_WORD_DISTINGUISHER 56
 
 /* The most operators that an NLRI can have: with lists of so many places no reading is short of room. */
 #define KRUBBADIN_MOST_OPERATORS 2047
@@ -170,12 +185,27 @@ static inline uint64_t krubbadin_tcp_flags(uint8_t octet_13, uint8_t octet_14)
 }
 
 /*
+ * What `standard` says to krubbadin_read, krubbadin_check and krubbadin_write. Any other number is as KRUBBADIN_STANDARD, and so is
+ * KRUBBADIN_WITH_DISTINGUISHER to krubbadin_write: the rule says whether there is one to write.
+ *
+ * KRUBBADIN_WITH_DISTINGUISHER joined the others later. Before it 2 was as KRUBBADIN_STANDARD to the readings, too: a caller who passes 2 and
+ * means that passes 1 now.
+ */
+enum krubbadin_mode {
+    KRUBBADIN_PLAIN = 0,             /* bgpkit-parser's reading and writing, which look at no family and know no distinguisher */
+    KRUBBADIN_STANDARD = 1,          /* those of the RFCs in `family`, 4 or 6; the reading expects no distinguisher */
+    KRUBBADIN_WITH_DISTINGUISHER = 2 /* the reading of the RFCs that expects eight octets of distinguisher before the first component */
+};
+
+/*
  * Reads a rule from the front of `input` into the first 64 words, its operators into the two lists. With `standard` 0 it is the plain
- * reading (bgpkit-parser's), which looks at no family; else the standard one in `family`, 4 or 6.
+ * reading (bgpkit-parser's), which looks at no family; with 2 the standard one in `family`, 4 or 6, of a rule with a distinguisher, which
+ * the stated length counts; else the standard one of a rule without.
  *
  * Accepted: first is the octets used, second the number of operators. All 64 words are written; words after them and places past the last
- * operator stay. Refused by 8 (plain) or 11 (standard), then by 1 to 4 and 5 (plain) or 6 (standard) as the walk meets them, each with its
- * place, then by 9.
+ * operator stay. Refused by 8 (plain) or 11 (standard); by 1 in the length, or if the stated end lies past the input; by 19 if a
+ * distinguisher is expected and the stated length is below eight (eight is a rule without components); then by 1 to 4 and 5 (plain) or 6
+ * (standard) as the walk meets them; each of 1 to 6 and 19 with its place; then by 9.
  */
 struct krubbadin_answer krubbadin_read(uint8_t standard, uint8_t family,
                                        const uint8_t *input, size_t input_len,
@@ -184,22 +214,23 @@ struct krubbadin_answer krubbadin_read(uint8_t standard, uint8_t family,
                                        uint8_t *octets, size_t octets_len);
 
 /*
- * Checks a rule at the front of `input` and writes nothing: answers what krubbadin_read with room for all would. With `standard` 0 it goes
- * by the plain reading, which looks at no family; else by the standard one in `family`, 4 or 6.
+ * Checks a rule at the front of `input` and writes nothing: answers what krubbadin_read with the same `standard` and `family` and with room
+ * for all would.
  *
  * Accepted: first is the octets used, the length's own included, second the number of operators, which is how many places krubbadin_read
- * needs in each list. Refused by 8 (plain) or 11 (standard), then by 1 to 4 and 5 (plain) or 6 (standard) as the walk meets them, each with
- * its place, and never by 9.
+ * needs in each list. Refused as krubbadin_read is, in the same order and with the same places, and never by 9.
  */
 struct krubbadin_answer krubbadin_check(uint8_t standard, uint8_t family,
                                         const uint8_t *input, size_t input_len);
 
 /*
  * Writes the rule in the first 64 words, its operators in the two lists, to the front of `out`. With `standard` 0 it is the plain
- * writing, else the standard one in `family`; the family in the rule's words is not looked at.
+ * writing, which writes the components alone, else the standard one in `family`, which writes the distinguisher before them if there is one;
+ * the family in the rule's words is not looked at.
  *
- * Accepted: first is the octets written. Later octets of `out` stay. Refused by 11 (standard), 10, 7, 9 in this order. A value that is too
- * wide for its list's type is 10 to the standard writing, and so to the calls that follow.
+ * Accepted: first is the octets written. Later octets of `out` stay. Refused by 11 (standard), 10, 7, 9 in this order. The eight octets of a
+ * distinguisher count in 7 and 9. A value that is too wide for its list's type is 10 to the standard writing, and so to the calls that
+ * follow; words 55 and 56 that are no distinguisher's are 10 to either writing.
  */
 struct krubbadin_answer krubbadin_write(uint8_t standard, uint8_t family,
                                         const uint64_t *words, size_t words_len,
@@ -222,7 +253,8 @@ struct krubbadin_answer krubbadin_match(const uint64_t *words, size_t words_len,
  * Which of two rules precedes (RFC 8955, 5.1; RFC 8956, 4), each with its own lists.
  *
  * Accepted: first is 1 if the first precedes, 2 if the second does, 0 if they are equal. Refused by 10 as in krubbadin_match, for either;
- * by 14, which carries 1, if the second's family is not the first's.
+ * by 14, which carries 1, if the second's family is not the first's; by 20, which carries 1, if the second's distinguisher is not the
+ * first's, or if one of them alone has one.
  */
 struct krubbadin_answer krubbadin_rank(const uint64_t *words, size_t words_len,
                                        const uint64_t *values, size_t values_len,
@@ -236,7 +268,8 @@ struct krubbadin_answer krubbadin_rank(const uint64_t *words, size_t words_len,
  * words_len / 64 rules; the operators of all of them stand in the one pair of lists, and word 54 of each says where its own begin.
  *
  * Accepted: first is 1 and second the deciding rule's place, counted from 0; first is 0 if no rule matches. Refused by 12; by 13; by 10
- * as in krubbadin_match for any rule, or if words are left over; by 14 with the place of the first rule whose family is not the packet's.
+ * as in krubbadin_match for any rule, or if words are left over; by 14 with the place of the first rule whose family is not the packet's; by
+ * 20 with the place of the first rule whose distinguisher is not that of the rule at place 0, or that alone of the two has one.
  */
 struct krubbadin_answer krubbadin_choose(const uint64_t *words, size_t words_len,
                                          const uint64_t *values, size_t values_len,

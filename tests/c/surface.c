@@ -1,5 +1,6 @@
 /*
- * The surface from C: document 01's cases ("## Cases") and its refusals, with their places, through include/krubbadin.h.
+ * The surface from C: document 01's cases ("## Cases") and its refusals, with their places, and rules with a distinguisher, through
+ * include/krubbadin.h.
  * Prints each check that fails, and last 'N checks, M failed'. tests/c/run builds and runs it, also as C++.
  */
 #include "krubbadin.h"
@@ -70,22 +71,31 @@ static uint64_t bound(uint8_t family, const uint8_t *input, size_t length)
  * A check answers what a reading with room for all does, here of the input and of every truncation of it; and where an octet is missing, the
  * end before which it is.
  */
-static int checks_the_same(uint8_t family, const uint8_t *input, size_t length)
+static int checks_the_same_by(uint8_t standard, uint8_t family, const uint8_t *input, size_t length)
 {
     static uint64_t words[KRUBBADIN_RULE_WORDS], values[KRUBBADIN_MOST_OPERATORS];
     static uint8_t octets[KRUBBADIN_MOST_OPERATORS];
     size_t left;
     for (left = 0; left <= length; left++) {
-        struct krubbadin_answer a = krubbadin_read(family != 0, family, input, left, words, KRUBBADIN_RULE_WORDS,
+        struct krubbadin_answer a = krubbadin_read(standard, family, input, left, words, KRUBBADIN_RULE_WORDS,
                                                    values, KRUBBADIN_MOST_OPERATORS, octets, KRUBBADIN_MOST_OPERATORS);
-        if (a.status == KRUBBADIN_NO_ROOM || !is_at(a.place, krubbadin_check(family != 0, family, input, left), a.status, a.first, a.second)) {
+        const int missing = a.status == KRUBBADIN_INSUFFICIENT_DATA || a.status == KRUBBADIN_SHORT_DISTINGUISHER;
+        if (a.status == KRUBBADIN_NO_ROOM || !is_at(a.place, krubbadin_check(standard, family, input, left), a.status, a.first, a.second)) {
             return 0;
         }
-        if (a.status == KRUBBADIN_INSUFFICIENT_DATA && a.place != bound(family, input, left)) {
+        if (missing && a.place != bound(family, input, left)) {
+            return 0;
+        }
+        if (a.status == KRUBBADIN_SHORT_DISTINGUISHER && standard != KRUBBADIN_WITH_DISTINGUISHER) {
             return 0;
         }
     }
     return 1;
+}
+
+static int checks_the_same(uint8_t family, const uint8_t *input, size_t length)
+{
+    return checks_the_same_by(family != 0, family, input, length);
 }
 
 /* Reads into a fresh rule with all its places; plain is family 0. What is read here is checked too. */
@@ -446,6 +456,266 @@ static void chosen(void)
     CHECK(is(krubbadin_choose(many, 65 * 64, NULL, 0, NULL, 0, NULL, 0), 12, 65, 0));
 }
 
+/* As READS, of a rule with a distinguisher. */
+static struct krubbadin_answer reads_distinguished(uint8_t family, const uint8_t *input, size_t length, struct lent *l)
+{
+    CHECK(checks_the_same_by(KRUBBADIN_WITH_DISTINGUISHER, family, input, length));
+    *l = fresh();
+    return krubbadin_read(KRUBBADIN_WITH_DISTINGUISHER, family, input, length, l->words, 64, l->values, 8, l->octets, 8);
+}
+
+#define READS_DISTINGUISHED(family, l, text) reads_distinguished((family), (const uint8_t *)(text), sizeof(text) - 1, (l))
+
+/* The distinguisher 0:64496:7 in a text, and as a number. */
+#define RD "\x00\x00\xFB\xF0\x00\x00\x00\x07"
+#define RD_BITS 0x0000FBF000000007
+
+/* Whether words 55 to 63 are those of a rule with this distinguisher. */
+static int distinguished_by(const uint64_t *words, uint64_t bits)
+{
+    size_t i;
+    for (i = 57; i < 64; i++) {
+        if (words[i] != 0) {
+            return 0;
+        }
+    }
+    return words[KRUBBADIN_WORD_DISTINGUISHED] == 1 && words[KRUBBADIN_WORD_DISTINGUISHER] == bits;
+}
+
+/* A rule that is read with its distinguisher and written back: with it by the standard writing, without it by the plain one. */
+static void distinguished(void)
+{
+    const uint8_t input[] = {0x0E, 0x00, 0x00, 0xFB, 0xF0, 0x00, 0x00, 0x00, 0x07, 0x01, 0x08, 0x0A, 0x05, 0x81, 0x50};
+    const uint8_t plain[] = {0x06, 0x01, 0x08, 0x0A, 0x05, 0x81, 0x50};
+    const uint64_t components[] = {1, 8, 0x0A000000, 0, 5, 0, 1, 0};
+    const uint8_t modes[] = {KRUBBADIN_STANDARD, KRUBBADIN_WITH_DISTINGUISHER, 3, 255};
+    const struct lent f = fresh();
+    uint64_t packet[20];
+    struct lent l;
+    uint8_t out[16];
+    size_t i;
+    CHECK(KRUBBADIN_PLAIN == 0 && KRUBBADIN_STANDARD == 1 && KRUBBADIN_WITH_DISTINGUISHER == 2);
+    CHECK(KRUBBADIN_WORD_DISTINGUISHED == 55 && KRUBBADIN_WORD_DISTINGUISHER == 56);
+    CHECK(is(reads_distinguished(4, input, sizeof input, &l), 0, 15, 1));
+    CHECK(memcmp(l.words, components, sizeof components) == 0 && l.words[KRUBBADIN_WORD_COUNT] == 2);
+    CHECK(l.words[KRUBBADIN_WORD_FAMILY] == 4 && l.words[KRUBBADIN_WORD_FIRST] == 0 && distinguished_by(l.words, RD_BITS));
+    CHECK(l.values[0] == 80 && l.octets[0] == 0x81 && l.words[64] == f.words[64] && l.values[1] == f.values[1]);
+    for (i = 0; i < sizeof modes; i++) {
+        memset(out, 0xEE, sizeof out);
+        CHECK(is(krubbadin_write(modes[i], 4, l.words, 64, l.values, 1, l.octets, 1, out, 14), 9, 15, 0));
+        CHECK(out[0] == 0xEE && out[13] == 0xEE);
+        CHECK(is(krubbadin_write(modes[i], 4, l.words, 64, l.values, 1, l.octets, 1, out, 15), 0, 15, 0));
+        CHECK(memcmp(out, input, sizeof input) == 0 && out[15] == 0xEE);
+    }
+    memset(out, 0xEE, sizeof out);
+    CHECK(is(krubbadin_write(KRUBBADIN_PLAIN, 0, l.words, 64, l.values, 1, l.octets, 1, out, 6), 9, 7, 0) && out[0] == 0xEE);
+    CHECK(is(krubbadin_write(KRUBBADIN_PLAIN, 0, l.words, 64, l.values, 1, l.octets, 1, out, 7), 0, 7, 0));
+    CHECK(memcmp(out, plain, sizeof plain) == 0 && out[7] == 0xEE);
+
+    /* it plays no part in matching */
+    packet4(packet, 0x0A010203);
+    packet[9] = 1, packet[11] = 80;
+    CHECK(is(krubbadin_match(l.words, 64, l.values, 1, l.octets, 1, packet, 20), 0, 1, 0));
+    packet[11] = 81;
+    CHECK(is(krubbadin_match(l.words, 64, l.values, 1, l.octets, 1, packet, 20), 0, 0, 0));
+
+    /* a length of two octets, IPv6, and octets behind that belong to someone else */
+    CHECK(is(READS_DISTINGUISHED(6, &l, "\xF0\x0B" RD "\x03\x81\x06\xFF"), 0, 13, 1));
+    CHECK(l.words[0] == 3 && l.words[KRUBBADIN_WORD_FAMILY] == 6 && l.values[0] == 6 && distinguished_by(l.words, RD_BITS));
+
+    /* the distinguisher alone is a rule without components; one of zeros is one, too */
+    CHECK(is(READS_DISTINGUISHED(4, &l, "\x08" RD), 0, 9, 0));
+    CHECK(l.words[KRUBBADIN_WORD_COUNT] == 0 && distinguished_by(l.words, RD_BITS));
+    CHECK(is(krubbadin_write(1, 4, l.words, 64, NULL, 0, NULL, 0, out, 9), 0, 9, 0) && memcmp(out, "\x08" RD, 9) == 0);
+    CHECK(is(krubbadin_write(1, 4, l.words, 64, NULL, 0, NULL, 0, out, 8), 9, 9, 0));
+    CHECK(is(krubbadin_write(0, 0, l.words, 64, NULL, 0, NULL, 0, out, 1), 0, 1, 0) && out[0] == 0);
+    CHECK(is(READS_DISTINGUISHED(4, &l, "\x08\x00\x00\x00\x00\x00\x00\x00\x00"), 0, 9, 0) && distinguished_by(l.words, 0));
+    memset(out, 0xEE, sizeof out);
+    CHECK(is(krubbadin_write(1, 4, l.words, 64, NULL, 0, NULL, 0, out, 9), 0, 9, 0));
+    CHECK(memcmp(out, "\x08\x00\x00\x00\x00\x00\x00\x00\x00", 9) == 0);
+
+    /* the other readings expect none: its first octet is a type, and words 55 and 56 are 0 */
+    CHECK(is_at(1, krubbadin_check(KRUBBADIN_STANDARD, 4, input, sizeof input), 2, 0, 0));
+    CHECK(is_at(1, krubbadin_check(3, 4, input, sizeof input), 2, 0, 0) && is_at(1, krubbadin_check(255, 4, input, sizeof input), 2, 0, 0));
+    CHECK(is_at(1, krubbadin_check(KRUBBADIN_PLAIN, 0, input, sizeof input), 2, 0, 0));
+    CHECK(is(READS(4, &l, "\x03\x01\x08\x0A"), 0, 4, 0) && l.words[55] == 0 && l.words[56] == 0);
+    CHECK(is(READS(0, &l, "\x03\x01\x08\x0A"), 0, 4, 0) && l.words[55] == 0 && l.words[56] == 0);
+}
+
+/* The refusals of a reading that expects a distinguisher, in their order, with places counted from the start of the input. */
+static void short_distinguishers(void)
+{
+    const uint8_t tcp[] = {0x0B, 0x00, 0x00, 0xFB, 0xF0, 0x00, 0x00, 0x00, 0x07, 0x03, 0x81, 0x06};
+    struct lent l;
+    CHECK(is(READS_DISTINGUISHED(5, &l, "\x00"), 11, 5, 0) && untouched(&l));
+    CHECK(is(READS_DISTINGUISHED(0, &l, "\x00"), 11, 0, 0) && untouched(&l));
+
+    /* 1 in the length, and where the stated end lies past the input, come before 19 */
+    CHECK(is_at(0, reads_distinguished(4, NULL, 0, &l), 1, 0, 0) && untouched(&l));
+    CHECK(is_at(1, READS_DISTINGUISHED(4, &l, "\xF0"), 1, 0, 0) && untouched(&l));
+    CHECK(is_at(7, READS_DISTINGUISHED(4, &l, "\x07\x00\x00\xFB\xF0\x00\x00"), 1, 0, 0) && untouched(&l));
+    CHECK(is_at(8, READS_DISTINGUISHED(6, &l, "\x08\x00\x00\xFB\xF0\x00\x00\x00"), 1, 0, 0) && untouched(&l));
+
+    /* 19 at the stated end, whatever follows it */
+    CHECK(is_at(1, READS_DISTINGUISHED(4, &l, "\x00"), 19, 0, 0) && untouched(&l));
+    CHECK(is_at(8, READS_DISTINGUISHED(4, &l, "\x07\x00\x00\xFB\xF0\x00\x00\x00"), 19, 0, 0) && untouched(&l));
+    CHECK(is_at(8, READS_DISTINGUISHED(6, &l, "\x07" RD "\x01"), 19, 0, 0) && untouched(&l));
+    CHECK(is_at(9, READS_DISTINGUISHED(4, &l, "\xF0\x07" RD), 19, 0, 0) && untouched(&l));
+    CHECK(is_at(4, READS_DISTINGUISHED(4, &l, "\x03\x0E\x81\x06"), 19, 0, 0) && untouched(&l));
+    CHECK(is_at(4, krubbadin_check(2, 4, (const uint8_t *)"\x03\x01\x08\x0A", 4), KRUBBADIN_SHORT_DISTINGUISHER, 0, 0));
+
+    /* what is wrong behind it */
+    CHECK(is_at(11, READS_DISTINGUISHED(4, &l, "\x0A" RD "\x03\x81\x06"), 1, 0, 0) && untouched(&l));
+    CHECK(is_at(12, READS_DISTINGUISHED(6, &l, "\x0E" RD "\x03\x81\x06\x03\x81\x11"), 2, 3, 3) && untouched(&l));
+    CHECK(is_at(9, READS_DISTINGUISHED(4, &l, "\x0C" RD "\x0D\x81\x00\x0E"), 3, 13, 0) && untouched(&l));
+    CHECK(is_at(10, READS_DISTINGUISHED(4, &l, "\x0A" RD "\x01\x21"), 4, 0, 0) && untouched(&l));
+    CHECK(is_at(11, READS_DISTINGUISHED(6, &l, "\xF0\x0B" RD "\x01\x40\x40"), 4, 0, 0) && untouched(&l));
+    CHECK(is_at(10, READS_DISTINGUISHED(4, &l, "\x0A" RD "\x0B\x91"), 6, 1, 0) && untouched(&l));
+    CHECK(is(READS_DISTINGUISHED(4, &l, "\x0B" RD "\x03\x89\x06"), 0, 12, 1) && l.octets[0] == 0x81);
+
+    /* 9 comes last */
+    l = fresh();
+    CHECK(is(krubbadin_read(2, 4, tcp, 12, l.words, 63, l.values, 8, l.octets, 8), 9, 1, 0) && untouched(&l));
+    CHECK(is(krubbadin_read(2, 4, tcp, 12, l.words, 64, NULL, 0, l.octets, 8), 9, 1, 0) && untouched(&l));
+    CHECK(is(krubbadin_read(2, 4, tcp, 12, l.words, 64, l.values, 8, NULL, 0), 9, 1, 0) && untouched(&l));
+    CHECK(is_at(1, krubbadin_read(2, 4, (const uint8_t *)"\x00", 1, NULL, 0, NULL, 0, NULL, 0), 19, 0, 0));
+}
+
+/* Words 55 to 63 that no rule has are refused by every call that takes a rule, whichever rule it is. */
+static void no_distinguishers(void)
+{
+    const struct { size_t word; uint64_t other; } wrong[] = {
+        {KRUBBADIN_WORD_DISTINGUISHED, 2}, {KRUBBADIN_WORD_DISTINGUISHED, UINT64_MAX}, {KRUBBADIN_WORD_DISTINGUISHED, (uint64_t)1 << 32},
+        {KRUBBADIN_WORD_DISTINGUISHER, 1}, {KRUBBADIN_WORD_DISTINGUISHER, RD_BITS},
+        {57, 1}, {60, 1}, {63, 1},
+    };
+    uint64_t packet[20], words[128];
+    struct lent good, bad;
+    uint8_t out[16], standard;
+    size_t i;
+    packet4(packet, 0x0A010203);
+    READS(4, &good, "\x03\x01\x08\x0A");
+    for (i = 0; i < sizeof wrong / sizeof *wrong; i++) {
+        bad = good;
+        bad.words[wrong[i].word] = wrong[i].other;
+        for (standard = 0; standard < 4; standard++) {
+            memset(out, 0xEE, sizeof out);
+            CHECK(is(krubbadin_write(standard, 4, bad.words, 64, NULL, 0, NULL, 0, out, 16), 10, 0, 0) && out[0] == 0xEE);
+        }
+        CHECK(is(krubbadin_match(bad.words, 64, NULL, 0, NULL, 0, packet, 20), 10, 0, 0));
+        CHECK(is(krubbadin_rank(bad.words, 64, NULL, 0, NULL, 0, good.words, 64, NULL, 0, NULL, 0), 10, 0, 0));
+        CHECK(is(krubbadin_rank(good.words, 64, NULL, 0, NULL, 0, bad.words, 64, NULL, 0, NULL, 0), 10, 0, 0));
+        CHECK(is(krubbadin_choose(bad.words, 64, NULL, 0, NULL, 0, packet, 20), 10, 0, 0));
+        memcpy(words, good.words, 64 * sizeof *words);
+        memcpy(words + 64, bad.words, 64 * sizeof *words);
+        CHECK(is(krubbadin_choose(words, 128, NULL, 0, NULL, 0, packet, 20), 10, 0, 0));
+    }
+    /* the words that say it has one, of any bits */
+    bad = good;
+    bad.words[KRUBBADIN_WORD_DISTINGUISHED] = 1;
+    CHECK(is(krubbadin_match(bad.words, 64, NULL, 0, NULL, 0, packet, 20), 0, 1, 0));
+    CHECK(is(krubbadin_write(1, 4, bad.words, 64, NULL, 0, NULL, 0, out, 16), 0, 12, 0));
+    CHECK(memcmp(out, "\x0B\0\0\0\0\0\0\0\0\x01", 10) == 0);
+    bad.words[KRUBBADIN_WORD_DISTINGUISHER] = UINT64_MAX;
+    CHECK(is(krubbadin_match(bad.words, 64, NULL, 0, NULL, 0, packet, 20), 0, 1, 0));
+    CHECK(is(krubbadin_write(1, 4, bad.words, 64, NULL, 0, NULL, 0, out, 16), 0, 12, 0));
+    CHECK(memcmp(out, "\x0B\xFF\xFF\xFF\xFF\xFF\xFF\xFF\xFF\x01", 10) == 0);
+}
+
+/* The eight octets count in the 4,095: of 4,087 octets of components and of one more. */
+static void long_distinguished(void)
+{
+    static uint64_t values[458];
+    static uint8_t octets[458], out[4097];
+    uint64_t rule[64] = {0}, packet[20];
+    packet4(packet, 0x0A010203);
+    rule[0] = 4, rule[2] = 454, rule[KRUBBADIN_WORD_COUNT] = 1, rule[KRUBBADIN_WORD_FAMILY] = 4;
+    memset(octets, 0x31, sizeof octets);
+    octets[453] = 0xB1;
+    rule[KRUBBADIN_WORD_DISTINGUISHED] = 1, rule[KRUBBADIN_WORD_DISTINGUISHER] = RD_BITS;
+    CHECK(is(krubbadin_write(1, 4, rule, 64, values, 454, octets, 454, out, 4096), 9, 4097, 0));
+    CHECK(is(krubbadin_write(1, 4, rule, 64, values, 454, octets, 454, out, 4097), 0, 4097, 0));
+    CHECK(memcmp(out, "\xFF\xFF" RD "\x04\x31", 12) == 0);
+    CHECK(is(krubbadin_check(2, 4, out, 4097), 0, 4097, 454));
+    CHECK(is(krubbadin_match(rule, 64, values, 454, octets, 454, packet, 20), 0, 0, 0));
+    CHECK(is(krubbadin_rank(rule, 64, values, 454, octets, 454, rule, 64, values, 454, octets, 454), 0, 0, 0));
+    CHECK(is(krubbadin_choose(rule, 64, values, 454, octets, 454, packet, 20), 0, 0, 0));
+
+    /* five operators of two octets in place of one of nine */
+    memset(octets + 453, 0x01, 5);
+    octets[457] = 0x81, rule[2] = 458;
+    CHECK(is(krubbadin_write(1, 4, rule, 64, values, 458, octets, 458, out, 4097), 7, 4096, 0));
+    CHECK(is(krubbadin_write(2, 4, rule, 64, values, 458, octets, 458, NULL, 0), 7, 4096, 0));
+    CHECK(is(krubbadin_match(rule, 64, values, 458, octets, 458, packet, 20), 10, 0, 0));
+    CHECK(is(krubbadin_rank(rule, 64, values, 458, octets, 458, rule, 64, values, 458, octets, 458), 10, 0, 0));
+    CHECK(is(krubbadin_choose(rule, 64, values, 458, octets, 458, packet, 20), 10, 0, 0));
+    CHECK(is(krubbadin_write(0, 0, rule, 64, values, 458, octets, 458, out, 4097), 0, 4090, 0));
+    rule[KRUBBADIN_WORD_DISTINGUISHED] = 0, rule[KRUBBADIN_WORD_DISTINGUISHER] = 0;
+    CHECK(is(krubbadin_write(1, 4, rule, 64, values, 458, octets, 458, out, 4097), 0, 4090, 0));
+    CHECK(is(krubbadin_match(rule, 64, values, 458, octets, 458, packet, 20), 0, 0, 0));
+}
+
+/* Puts a rule to a place of a table. */
+static void place_rule(uint64_t *words, size_t place, const struct lent *rule)
+{
+    memcpy(words + 64 * place, rule->words, 64 * sizeof *words);
+}
+
+static struct krubbadin_answer rank_of(const struct lent *one, const struct lent *two)
+{
+    return krubbadin_rank(one->words, 64, NULL, 0, NULL, 0, two->words, 64, NULL, 0, NULL, 0);
+}
+
+/* Rules of two distinguishers are not ranked, and not chosen from; none is one of its own. */
+static void mixed_distinguishers(void)
+{
+    struct lent wide, narrow, other, zero, none, six;
+    uint64_t words[4 * 64], packet[20];
+    READS_DISTINGUISHED(4, &wide, "\x0B" RD "\x01\x08\x0A");
+    READS_DISTINGUISHED(4, &narrow, "\x0C" RD "\x01\x10\x0A\x01");
+    READS_DISTINGUISHED(4, &other, "\x0B\x00\x00\xFB\xF0\x00\x00\x00\x08\x01\x08\x0A");
+    READS_DISTINGUISHED(4, &zero, "\x0B\x00\x00\x00\x00\x00\x00\x00\x00\x01\x08\x0A");
+    READS(4, &none, "\x03\x01\x08\x0A");
+    READS_DISTINGUISHED(6, &six, "\x08\x00\x00\xFB\xF0\x00\x00\x00\x09");
+
+    CHECK(is(rank_of(&wide, &narrow), 0, 2, 0) && is(rank_of(&narrow, &wide), 0, 1, 0) && is(rank_of(&wide, &wide), 0, 0, 0));
+    CHECK(is(rank_of(&zero, &zero), 0, 0, 0) && is(rank_of(&none, &none), 0, 0, 0));
+    CHECK(is(rank_of(&wide, &other), 20, 1, 0) && is(rank_of(&other, &wide), 20, 1, 0));
+    CHECK(is(rank_of(&wide, &none), 20, 1, 0) && is(rank_of(&none, &wide), 20, 1, 0));
+    CHECK(is(rank_of(&zero, &none), 20, 1, 0) && is(rank_of(&none, &zero), 20, 1, 0));
+    /* 14 comes before it, and 10 before that */
+    CHECK(is(rank_of(&wide, &six), 14, 1, 0) && is(rank_of(&six, &none), 14, 1, 0));
+    other.words[63] = 1;
+    CHECK(is(rank_of(&wide, &other), 10, 0, 0));
+    other.words[63] = 0;
+
+    packet4(packet, 0x0A010203);
+#define TABLE(a, b, c, d) (place_rule(words, 0, &(a)), place_rule(words, 1, &(b)), place_rule(words, 2, &(c)), place_rule(words, 3, &(d)))
+#define CHOOSE(rules) krubbadin_choose(words, 64 * (rules), NULL, 0, NULL, 0, packet, 20)
+    TABLE(wide, narrow, wide, other);
+    CHECK(is(CHOOSE(3), 0, 1, 1) && is(CHOOSE(4), 20, 3, 0));
+    TABLE(wide, other, other, narrow);
+    CHECK(is(CHOOSE(1), 0, 1, 0) && is(CHOOSE(2), 20, 1, 0) && is(CHOOSE(4), 20, 1, 0));
+    TABLE(none, none, wide, wide);
+    CHECK(is(CHOOSE(2), 0, 1, 0) && is(CHOOSE(3), 20, 2, 0) && is(CHOOSE(4), 20, 2, 0));
+    TABLE(wide, none, none, none);
+    CHECK(is(CHOOSE(4), 20, 1, 0));
+    TABLE(zero, zero, none, none);
+    CHECK(is(CHOOSE(2), 0, 1, 0) && is(CHOOSE(3), 20, 2, 0));
+    /* also where no rule matches */
+    packet4(packet, 0x0B000001);
+    CHECK(is(CHOOSE(2), 0, 0, 0) && is(CHOOSE(3), 20, 2, 0));
+    /* 14 comes before it, be its place a later one; 10 before 14; 13 before 10 */
+    TABLE(wide, other, none, six);
+    CHECK(is(CHOOSE(3), 20, 1, 0) && is(CHOOSE(4), 14, 3, 0));
+    words[3 * 64 + 63] = 1;
+    CHECK(is(CHOOSE(4), 10, 0, 0));
+    packet[0] = 5;
+    CHECK(is(CHOOSE(4), 13, 0, 0));
+#undef TABLE
+#undef CHOOSE
+}
+
 static void operators(void)
 {
     struct krubbadin_operator o = krubbadin_operator_read(0, 0x45, 90);
@@ -496,8 +766,11 @@ static void texts(void)
     CHECK(strcmp(krubbadin_status_text(((uint64_t)1 << 32) + 1), unknown) == 0);
     CHECK(strcmp(krubbadin_status_text(KRUBBADIN_ACCEPTED), "accepted") == 0);
     CHECK(strcmp(krubbadin_status_text(13), "a field of the packet is out of range") == 0);
-    for (one = 0; one <= KRUBBADIN_MIXED_FAMILY; one++) {
-        for (other = one + 1; other <= KRUBBADIN_MIXED_FAMILY + 1; other++) {
+    CHECK(strcmp(krubbadin_status_text(19), "the rule ends before the eight octets of its distinguisher") == 0);
+    for (one = 0; one <= KRUBBADIN_MIXED_DISTINGUISHER + 1; one++) {
+        const int known = one <= KRUBBADIN_MIXED_FAMILY || one == KRUBBADIN_SHORT_DISTINGUISHER || one == KRUBBADIN_MIXED_DISTINGUISHER;
+        CHECK((strcmp(krubbadin_status_text(one), unknown) != 0) == known);
+        for (other = one + 1; known && other <= KRUBBADIN_MIXED_DISTINGUISHER + 1; other++) {
             CHECK(strcmp(krubbadin_status_text(one), krubbadin_status_text(other)) != 0);
         }
     }
@@ -515,6 +788,11 @@ int main(void)
     matched();
     ranked();
     chosen();
+    distinguished();
+    short_distinguishers();
+    no_distinguishers();
+    long_distinguished();
+    mixed_distinguishers();
     operators();
     printf("%u checks, %u failed\n", checks, failed);
     return failed != 0;

@@ -2,7 +2,7 @@
 -- family, and so does IPv6 `03 01 00 00`, whatever its address. The rows of `Cases` have the rules themselves.
 use Prim.Native.Nat.{ℕ}
 use mathlib.Core.Path.{_≡_, refl, sym, _∙_}
-use mathlib.Core.Bool.{true}
+use mathlib.Core.Bool.{true, false}
 use mathlib.Core.List.{List, [], _∷_}
 use borrow.Author.Tests.{eq-eqb}
 use Rattle.ground.specs.Answers.{accepts}
@@ -13,6 +13,7 @@ use Rattle.operators.specs.Ops.{kindOf, opsIn, listOctets}
 use Rattle.octets.specs.Lengths.{lengthAt, lengthOctets}
 use Rattle.octets.specs.Spell.{spell, spelled}
 use Rattle.stored.specs.Pieces.{named, isPiece, pieceOf, pieceAt}
+use Rattle.stored.specs.Distinguishers.{distinguisherAt, isDistinguisher}
 use Rattle.stored.specs.Stored.{allWords, tailWords, ruleWords, piecesFrom, recordsFrom, zerosFrom, isFramed, isRule, ruleAt, storedAt}
 use Rattle.prefixes.specs.Prefixes.{extentAt, prefixAt}
 use Rattle.walk.specs.Walks.{typedAt, componentAt, walkFrom, walkAt}
@@ -21,7 +22,7 @@ use Rattle.measuring.specs.Grounds.{allOperators, pieceTaken, allTaken, inOrder
 use Rattle.packets.specs.Packets.{Packet, packetOk}
 use Rattle.matching.specs.Rules.{ruleMatches}
 use Rattle.matching.proofs.Laws.{no-components, no-bits-more}
-use Rattle.reading.specs.Readings.{statedAt, readAt, wordsOf}
+use Rattle.reading.specs.Readings.{frontAt, statedAt, readAt, wordsOf}
 use Rattle.writing.specs.Writings.{bodyFrom, bodyIn}
 use Rattle.verdicts.specs.Verdicts.{wellFormed, matchVerdict}
 
@@ -32,16 +33,16 @@ unfolding matchVerdict
 matched words family p w s ok e m = rw (ok, w, eq-eqb (storedAt words 0 .head .family) (p .family) (s ∙ sym e), m)
 
 -- `00`
-pub every-packet : (p : Packet) → packetOk p ≡ true → p .family ≡ 4 → matchVerdict (wordsOf (readAt Ipv4 (0x00 ∷ []))) [] [] p ≡ accepts true
-unfolding readAt statedAt walkAt walkFrom lengthAt allWords tailWords ruleWords piecesFrom recordsFrom zerosFrom isFramed isRule ruleAt wellFormed bodyFrom bodyIn bodyOf standardOf bodyOctets allOperators allTaken inOrder takenAfter
-every-packet p ok e = matched (wordsOf (readAt Ipv4 (0x00 ∷ []))) 4 p refl refl ok e (no-components [] [] p _)
+pub every-packet : (p : Packet) → packetOk p ≡ true → p .family ≡ 4 → matchVerdict (wordsOf (readAt Ipv4 false (0x00 ∷ []))) [] [] p ≡ accepts true
+unfolding readAt statedAt frontAt distinguisherAt isDistinguisher walkAt walkFrom lengthAt allWords tailWords ruleWords piecesFrom recordsFrom zerosFrom isFramed isRule ruleAt wellFormed bodyFrom bodyIn bodyOf standardOf bodyOctets allOperators allTaken inOrder takenAfter
+every-packet p ok e = matched (wordsOf (readAt Ipv4 false (0x00 ∷ []))) 4 p refl refl ok e (no-components [] [] p _)
 
-pub every-packet-6 : (p : Packet) → packetOk p ≡ true → p .family ≡ 6 → matchVerdict (wordsOf (readAt Ipv6 (0x00 ∷ []))) [] [] p ≡ accepts true
-unfolding readAt statedAt walkAt walkFrom lengthAt allWords tailWords ruleWords piecesFrom recordsFrom zerosFrom isFramed isRule ruleAt wellFormed bodyFrom bodyIn bodyOf standardOf bodyOctets allOperators allTaken inOrder takenAfter
-every-packet-6 p ok e = matched (wordsOf (readAt Ipv6 (0x00 ∷ []))) 6 p refl refl ok e (no-components [] [] p _)
+pub every-packet-6 : (p : Packet) → packetOk p ≡ true → p .family ≡ 6 → matchVerdict (wordsOf (readAt Ipv6 false (0x00 ∷ []))) [] [] p ≡ accepts true
+unfolding readAt statedAt frontAt distinguisherAt isDistinguisher walkAt walkFrom lengthAt allWords tailWords ruleWords piecesFrom recordsFrom zerosFrom isFramed isRule ruleAt wellFormed bodyFrom bodyIn bodyOf standardOf bodyOctets allOperators allTaken inOrder takenAfter
+every-packet-6 p ok e = matched (wordsOf (readAt Ipv6 false (0x00 ∷ []))) 6 p refl refl ok e (no-components [] [] p _)
 
 -- IPv6 `03 01 00 00`
-pub every-destination : (p : Packet) → packetOk p ≡ true → p .family ≡ 6 → matchVerdict (wordsOf (readAt Ipv6 (0x03 ∷ 0x01 ∷ 0x00 ∷ 0x00 ∷ []))) [] [] p ≡ accepts true
-unfolding readAt statedAt walkAt walkFrom componentAt typedAt lengthAt extentAt prefixAt spell spelled allWords tailWords ruleWords named isPiece pieceOf pieceAt piecesFrom recordsFrom zerosFrom isFramed isRule ruleAt wellFormed bodyFrom bodyIn bodyOf standardOf pieceOctets bodyOctets allOperators pieceTaken allTaken inOrder takenAfter
+pub every-destination : (p : Packet) → packetOk p ≡ true → p .family ≡ 6 → matchVerdict (wordsOf (readAt Ipv6 false (0x03 ∷ 0x01 ∷ 0x00 ∷ 0x00 ∷ []))) [] [] p ≡ accepts true
+unfolding readAt statedAt frontAt distinguisherAt isDistinguisher walkAt walkFrom componentAt typedAt lengthAt extentAt prefixAt spell spelled allWords tailWords ruleWords named isPiece pieceOf pieceAt piecesFrom recordsFrom zerosFrom isFramed isRule ruleAt wellFormed bodyFrom bodyIn bodyOf standardOf pieceOctets bodyOctets allOperators pieceTaken allTaken inOrder takenAfter
 every-destination p ok e =
-    matched (wordsOf (readAt Ipv6 (0x03 ∷ 0x01 ∷ 0x00 ∷ 0x00 ∷ []))) 6 p refl refl ok e (no-bits-more [] [] p _ 1 0 0 [] ∙ no-components [] [] p _)
+    matched (wordsOf (readAt Ipv6 false (0x03 ∷ 0x01 ∷ 0x00 ∷ 0x00 ∷ []))) 6 p refl refl ok e (no-bits-more [] [] p _ 1 0 0 [] ∙ no-components [] [] p _)

@@ -1,8 +1,9 @@
 -- The choices by which the three readings part. Everything else is one walk for all of them, so this table is the list of the places
--- where the Rust and the RFCs part (docs/DIFFERENCES.md goes by it); how a prefix is read, the seventh choice, stands in `prefixes`.
+-- where the Rust and the RFCs part (docs/DIFFERENCES.md goes by it); how a prefix is read, the eighth choice, stands in `prefixes`.
 --
 --                     plain               IPv4                IPv6
 --   boundOf           the input's end     the stated end      the stated end      "bounded by the end of the input, not by the stated end"
+--   frontOf           0                   0, or 8             0, or 8             "The standard reading is told whether one is expected", "The plain reading knows none"
 --   lastType          13                  12                  13                  "1 to 13; in the standard IPv4 reading 1 to 12"
 --   codesIn           all four            by the type         by the type         "TCP flags (type 9) take values of one octet or two, DSCP (11) and fragments (12) of one"
 --   refusedIn         reserved bits       nothing             nothing             "0x08 in numeric, 0x0C in bitmask lists give InvalidOperator"
@@ -28,6 +29,16 @@ abbrev pub boundOf : Reading → ℕ → ℕ → ℕ
 boundOf Plain input stated = input
 boundOf Ipv4 input stated = stated
 boundOf Ipv6 input stated = stated
+
+-- "The standard reading is told whether one is expected": by the number 2
+abbrev pub expects : ℕ → Bool
+expects mode = eqb mode 2
+
+-- the octets of a distinguisher before the first component, where one is expected: RFC 8955, 8
+abbrev pub frontOf : Reading → Bool → ℕ
+frontOf Plain expected = 0
+frontOf Ipv4 expected = pick expected 8 0
+frontOf Ipv6 expected = pick expected 8 0
 
 abbrev pub lastType : Reading → ℕ
 lastType Plain = 13

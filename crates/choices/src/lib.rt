@@ -2,7 +2,7 @@
 ghost use mathlib.Core.Path.{_≡_};
 ghost use Prim.Native.Nat.{_<_};
 ghost use lib.Dec.{leb};
-ghost use Rattle.choices.specs.Choices.{boundOf, lastType, codesBy, codesIn, limitOf, firstIn, familyOf, standardOf, toldStandard};
+ghost use Rattle.choices.specs.Choices.{boundOf, lastType, codesBy, codesIn, limitOf, firstIn, frontOf, familyOf, standardOf, toldStandard};
 use operators::Kind;
 use refusals::Fault;
 use refusals::FlowSpecError;
@@ -23,6 +23,17 @@ pub fn bound(reading: Reading, input: usize, stated: usize) -> usize
         Reading::Plain => input,
         Reading::Ipv4 => stated,
         Reading::Ipv6 => stated,
+    }
+}
+
+// How many octets stand before the first component: those of a distinguisher, where one is expected. The plain reading knows none.
+pub fn front(reading: Reading, distinguished: bool) -> usize
+    ensures { λ r. ⌜ r ≡ frontOf reading distinguished ⌝ }
+{
+    match reading {
+        Reading::Plain => 0,
+        Reading::Ipv4 => if distinguished { 8 } else { 0 },
+        Reading::Ipv6 => if distinguished { 8 } else { 0 },
     }
 }
 

@@ -1,6 +1,6 @@
--- Demand 3, in the user's terms. Let a table hold at most 64 well-formed rules of one family, stored in any order, and let the packet be of
--- that family with its fields in range. Then, and in no other case, the chooser accepts (`accepts-where`, `accepts-exactly`), and of what it
--- answers (`decides`):
+-- Demand 3, in the user's terms. Let a table hold at most 64 well-formed rules of one family and one distinguisher, absent counting as its own,
+-- stored in any order, and let the packet be of that family with its fields in range. Then, and in no other case, the chooser accepts
+-- (`accepts-where`, `accepts-exactly`), and of what it answers (`decides`):
 --
 -- - the rule that it names is stored and matches;
 -- - no other rule that matches precedes it by the RFCs' order;
@@ -9,7 +9,8 @@
 --
 -- there is no other answer of which this holds (`no-other`), and "no rule" is said exactly where none matches (`none-exactly`). In every other case it
 -- refuses, by the first of these that holds: more than 64 rules (12, with their number), a packet out of range (13), a rule that is not
--- well-formed or words that make no whole rule (10), a rule of another family than the packet's (14, with the first such place): `refuses-..`.
+-- well-formed or words that make no whole rule (10), a rule of another family than the packet's (14, with the first such place), a rule of another
+-- distinguisher than the rule at place 0 (20, with the first such place): `refuses-..`.
 -- `chosenIn` is what the contract of `choosing::choose` cites, and `Decides` is in that contract too.
 use Prim.Native.Nat.{ℕ, zero, suc, _≤_, _<_}
 use mathlib.Core.Path.{_≡_, refl, sym, ap, _∙_, subst}
@@ -23,10 +24,13 @@ use Rattle.ground.specs.Picks.{pick}
 use Rattle.ground.specs.Answers.{Answer, accepts, refuses, declines}
 use Rattle.ground.proofs.Answers.{never}
 use Rattle.ground.proofs.Cases.{by-test, lt-or-le, both}
+use Rattle.rules.specs.declared.Distinguisher.{Distinguisher}
+use Rattle.stored.specs.Distinguishers.{sameDistinguisher}
+use Rattle.stored.proofs.Distinguishers.{same-is, same-self}
 use Rattle.packets.specs.Packets.{Packet, packetOk}
 use Rattle.ranking.proofs.Orders.{Ordered, by-key}
 use Rattle.ranking.proofs.Laws.{Ruled, ranked, rules-ordered}
-use Rattle.choosing.specs.Choosing.{Table, rulesIn, wholeRules, heldAt, formedAt, familyIs, matchesAt, rankAt, Choice, place, none, Decides, Decided, allBelow, orElse, firstFailing, better, bestBelow, unmixed, chosenIn}
+use Rattle.choosing.specs.Choosing.{Table, rulesIn, wholeRules, heldAt, formedAt, familyIs, likeFirst, matchesAt, rankAt, Choice, place, none, Decides, Decided, allBelow, orElse, firstFailing, better, bestBelow, unlessPlace, chosenIn}
 use Rattle.choosing.proofs.Passes.{all-below, all-not}
 use Rattle.choosing.proofs.Best.{Answers, betterThan, passed-over, taken-in, only-one}
 
@@ -74,6 +78,7 @@ pub record Fits (t : Table) (p : Packet) : Type 0 where
   pub whole : wholeRules t ≡ true
   pub formed : (i : ℕ) → i < rulesIn t → formedAt t i ≡ true
   pub of-family : (i : ℕ) → i < rulesIn t → familyIs t (p .family) i ≡ true
+  pub of-one : (i : ℕ) → i < rulesIn t → heldAt t i .head .distinguisher ≡ heldAt t 0 .head .distinguisher
 
 -- the first place that fails a test, where all before it passed
 pub record Fails (f : ℕ → Bool) (n i : ℕ) : Type 0 where
@@ -104,11 +109,25 @@ none-fails : (f : ℕ → Bool) (n : ℕ) (c : Choice) → Firsts f n c → ((i 
 none-fails f n (place i) a h = absurd (true≢false (sym (h i (a .below)) ∙ a .failed))
 none-fails f n none a h = refl
 
+no-first : (f : ℕ → Bool) (n : ℕ) → ((i : ℕ) → i < n → f i ≡ true) → firstFailing f n ≡ none
+no-first f n h = none-fails f n (firstFailing f n) (firsts f n) h
+
+-- the test of a distinguisher is that it is the same
+alike : (t : Table) (i : ℕ) → heldAt t i .head .distinguisher ≡ heldAt t 0 .head .distinguisher → likeFirst t i ≡ true
+alike t i e = ap (λ (d : Distinguisher). sameDistinguisher d (heldAt t 0 .head .distinguisher)) e ∙ same-self (heldAt t 0 .head .distinguisher)
+
 -- it accepts where the case is demand 3's
 pub accepts-where : (t : Table) (p : Packet) → Fits t p → chosenIn t p ≡ accepts (bestBelow t p (rulesIn t))
 unfolding chosenIn
 accepts-where t p h =
-    rw (le-ltb 64 (rulesIn t) (h .few), h .in-range, h .whole, all-true (formedAt t) (rulesIn t) (h .formed), none-fails (familyIs t (p .family)) (rulesIn t) (firstFailing (familyIs t (p .family)) (rulesIn t)) (firsts (familyIs t (p .family)) (rulesIn t)) (h .of-family)) refl
+    rw (
+      le-ltb 64 (rulesIn t) (h .few),
+      h .in-range,
+      h .whole,
+      all-true (formedAt t) (rulesIn t) (h .formed),
+      no-first (familyIs t (p .family)) (rulesIn t) (h .of-family),
+      no-first (likeFirst t) (rulesIn t) (λ i l. alike t i (h .of-one i l)),
+    ) refl
 
 -- and nowhere else; what it then answers decides
 is : {b c : Choice} → accepts b ≡ accepts c → b ≡ c
@@ -118,13 +137,23 @@ pub record Stands (t : Table) (p : Packet) (c : Choice) : Type 0 where
   pub fits : Fits t p
   pub decides : Decides t p c
 
-by-family : (t : Table) (p : Packet) (c d : Choice) → Firsts (familyIs t (p .family)) (rulesIn t) d → unmixed d (accepts (bestBelow t p (rulesIn t))) ≡ accepts c
-    → rulesIn t ≤ 64 → packetOk p ≡ true → (wholeRules t && allBelow (formedAt t) (rulesIn t)) ≡ true → Stands t p c
-by-family t p c (place i) a e few ok whole = never e
-by-family t p c none a e few ok whole =
+by-places : (t : Table) (p : Packet) (c d o : Choice) → Firsts (familyIs t (p .family)) (rulesIn t) d → Firsts (likeFirst t) (rulesIn t) o
+    → unlessPlace 14 d (unlessPlace 20 o (accepts (bestBelow t p (rulesIn t)))) ≡ accepts c → rulesIn t ≤ 64 → packetOk p ≡ true
+    → (wholeRules t && allBelow (formedAt t) (rulesIn t)) ≡ true → Stands t p c
+by-places t p c (place i) o a b e few ok whole = never e
+by-places t p c none (place i) a b e few ok whole = never e
+by-places t p c none none a b e few ok whole =
     let w = both (wholeRules t) (allBelow (formedAt t) (rulesIn t)) whole in
     record {
-      fits = record { few = few; in-range = ok; whole = w .0; formed = all-below (formedAt t) (rulesIn t) (w .1); of-family = a };
+      fits =
+          record {
+            few = few;
+            in-range = ok;
+            whole = w .0;
+            formed = all-below (formedAt t) (rulesIn t) (w .1);
+            of-family = a;
+            of-one = λ i l. same-is (heldAt t i .head .distinguisher) (heldAt t 0 .head .distinguisher) (b i l);
+          };
       decides = subst (Decides t p) (is e) (best-decides t p);
     }
 
@@ -135,7 +164,9 @@ accepts-exactly t p c e =
     (λ x. never (rw x at e))
     (λ x. by-test (packetOk p)
     (λ y. by-test (wholeRules t && allBelow (formedAt t) (rulesIn t))
-    (λ z. by-family t p c (firstFailing (familyIs t (p .family)) (rulesIn t)) (firsts (familyIs t (p .family)) (rulesIn t)) (rw (x, y, z) at e) (ltb-false 64 (rulesIn t) x) y z)
+    (λ z.
+    by-places t p c (firstFailing (familyIs t (p .family)) (rulesIn t)) (firstFailing (likeFirst t) (rulesIn t)) (firsts (familyIs t (p .family)) (rulesIn t)) (firsts (likeFirst t) (rulesIn t))
+    (rw (x, y, z) at e) (ltb-false 64 (rulesIn t) x) y z)
     (λ z. never (rw (x, y, z) at e)))
     (λ y. never (rw (x, y) at e)))
 
@@ -156,7 +187,7 @@ decided′ t p (declines f) e = tt
 pub decided : (t : Table) (p : Packet) (a : Answer Choice) → a ≡ chosenIn t p → Decided t p a
 decided t p a e = decided′ t p a (sym e)
 
--- "Choosing: 12, 13, 10, 14", each where none before it holds
+-- "Choosing: 12, 13, 10, 14, 20", each where none before it holds
 pub refuses-many : (t : Table) (p : Packet) → 64 < rulesIn t → chosenIn t p ≡ refuses 12 (rulesIn t ∷ [])
 unfolding chosenIn
 refuses-many t p h = rw (lt-ltb 64 (rulesIn t) h) refl
@@ -182,8 +213,17 @@ first-is f n i (place j) a h =
     (λ l. ⊎-elim (λ k. absurd (true≢false (sym (a .earlier i k) ∙ h .failed))) (λ k. omega arith) (lt-or-le i j))
     (lt-or-le j i))
 
+the-first : (f : ℕ → Bool) (n i : ℕ) → Fails f n i → firstFailing f n ≡ place i
+the-first f n i h = first-is f n i (firstFailing f n) (firsts f n) h
+
 pub refuses-family : (t : Table) (p : Packet) → rulesIn t ≤ 64 → packetOk p ≡ true → wholeRules t ≡ true → ((i : ℕ) → i < rulesIn t → formedAt t i ≡ true)
     → (i : ℕ) → Fails (familyIs t (p .family)) (rulesIn t) i → chosenIn t p ≡ refuses 14 (i ∷ [])
 unfolding chosenIn
 refuses-family t p h e w g i f =
-    rw (le-ltb 64 (rulesIn t) h, e, w, all-true (formedAt t) (rulesIn t) g, first-is (familyIs t (p .family)) (rulesIn t) i (firstFailing (familyIs t (p .family)) (rulesIn t)) (firsts (familyIs t (p .family)) (rulesIn t)) f) refl
+    rw (le-ltb 64 (rulesIn t) h, e, w, all-true (formedAt t) (rulesIn t) g, the-first (familyIs t (p .family)) (rulesIn t) i f) refl
+
+pub refuses-distinguisher : (t : Table) (p : Packet) → rulesIn t ≤ 64 → packetOk p ≡ true → wholeRules t ≡ true → ((i : ℕ) → i < rulesIn t → formedAt t i ≡ true)
+    → ((i : ℕ) → i < rulesIn t → familyIs t (p .family) i ≡ true) → (i : ℕ) → Fails (likeFirst t) (rulesIn t) i → chosenIn t p ≡ refuses 20 (i ∷ [])
+unfolding chosenIn
+refuses-distinguisher t p h e w g m i f =
+    rw (le-ltb 64 (rulesIn t) h, e, w, all-true (formedAt t) (rulesIn t) g, no-first (familyIs t (p .family)) (rulesIn t) m, the-first (likeFirst t) (rulesIn t) i f) refl

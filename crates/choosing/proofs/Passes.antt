@@ -45,6 +45,25 @@ failing-step : (f : ℕ → Bool) (n i : ℕ) → i < n → foundOr (placeOr n (
 unfolding firstFailing
 failing-step f n i l = or-step n i l (firstFailing f i) (f i) (failing-below f i)
 
+-- the first place that fails, where none before it does
+module _ (f : ℕ → Bool) where
+  pub none-yet : firstFailing f 0 ≡ none
+  unfolding firstFailing
+  none-yet = refl
+
+  pub none-on : (i : ℕ) → firstFailing f i ≡ none → f i ≡ true → firstFailing f (i + 1) ≡ none
+  unfolding firstFailing
+  none-on i e h = let s : i + 1 ≡ suc i = omega arith in ap (firstFailing f) s ∙ rw (e, h)
+
+  pub failed-first : (n i : ℕ) → i < n → firstFailing f i ≡ none → f i ≡ false → firstFailing f n ≡ place i
+  unfolding firstFailing
+  failed-first zero i l e h = absurd (omega arith)
+  failed-first (suc n) i l e h =
+      ⊎-elim
+      (λ k. rw (failed-first n i k e h))
+      (λ k. let q : i ≡ n = omega arith in rw (subst (λ (j : ℕ). firstFailing f j ≡ none) q e, subst (λ (j : ℕ). f j ≡ false) q h) (ap place (sym q)))
+      (lt-or-le i n)
+
 -- all below a number
 pub all-below : (f : ℕ → Bool) (n : ℕ) → allBelow f n ≡ true → (i : ℕ) → i < n → f i ≡ true
 unfolding allBelow

@@ -9,6 +9,7 @@ use lib.Dec.{ltb, eqb}
 use Rattle.ground.specs.Answers.{Answer, accepts, refuses, declines}
 use Rattle.ground.specs.Picks.{pick}
 use Rattle.refusals.specs.Refusals.{refusal}
+use Rattle.stored.specs.Distinguishers.{sameDistinguisher}
 use Rattle.stored.specs.Stored.{StoredRule, storedAt}
 use Rattle.packets.specs.Packets.{Packet, packetOk}
 use Rattle.matching.specs.Rules.{ruleMatches}
@@ -44,6 +45,10 @@ formedAt t i = wellFormed (t .words) (t .values) (t .octets) (64 * i)
 
 abbrev pub familyIs : Table → ℕ → ℕ → Bool
 familyIs t family i = eqb (heldAt t i .head .family) family
+
+-- whether the rule at a place has the distinguisher that the rule at place 0 has
+abbrev pub likeFirst : Table → ℕ → Bool
+likeFirst t i = sameDistinguisher (heldAt t i .head .distinguisher) (heldAt t 0 .head .distinguisher)
 
 abbrev pub matchesAt : Table → Packet → ℕ → Bool
 matchesAt t p i = ruleMatches (t .values) (t .octets) p (heldAt t i)
@@ -93,17 +98,20 @@ unfoldable pub bestBelow : Table → Packet → ℕ → Choice
 bestBelow t p zero = none
 bestBelow t p (suc n) = pick (matchesAt t p n) (better t (bestBelow t p n) n) (bestBelow t p n)
 
-abbrev pub unmixed : Choice → Answer Choice → Answer Choice
-unmixed (place i) a = refuses 14 (i ∷ [])
-unmixed none a = a
+-- a refusal by a number that carries a place, where there is one
+abbrev pub unlessPlace : ℕ → Choice → Answer Choice → Answer Choice
+unlessPlace number (place i) a = refuses number (i ∷ [])
+unlessPlace number none a = a
 
--- "Choosing: 12, 13, 10 .., 14 (a rule's family is not the packet's)"; TooManyRules carries the number, MixedFamily the "first such place"
+-- "Choosing: 12, 13, 10 .., 14 (a rule's family is not the packet's), 20 (a rule's distinguisher is not that of place 0)"; TooManyRules carries the
+-- number, MixedFamily and MixedDistinguisher the "first such place"
 unfoldable pub chosenIn : Table → Packet → Answer Choice
 chosenIn t p =
     pick (ltb 64 (rulesIn t)) (refuses 12 (rulesIn t ∷ []))
     (pick (not (packetOk p)) (refuses 13 [])
     (pick (not (wholeRules t && allBelow (formedAt t) (rulesIn t))) (refuses 10 [])
-    (unmixed (firstFailing (familyIs t (p .family)) (rulesIn t)) (accepts (bestBelow t p (rulesIn t))))))
+    (unlessPlace 14 (firstFailing (familyIs t (p .family)) (rulesIn t))
+    (unlessPlace 20 (firstFailing (likeFirst t) (rulesIn t)) (accepts (bestBelow t p (rulesIn t)))))))
 
 -- the answer as it is told
 abbrev pub toldChosen : Chosen → Answer Choice

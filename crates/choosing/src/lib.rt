@@ -4,14 +4,16 @@
 // The functions with a `requires` are no entry points.
 ghost use mathlib.Core.Path.{_≡_};
 ghost use mathlib.Core.Bool.{true};
+ghost use mathlib.Core.List.{[]};
 ghost use Prim.Native.Nat.{_+_, _*_, _≤_, _<_};
 ghost use lib.ListN.{length};
 ghost use Rattle.packets.specs.Packets.{packetOk, packetAt};
-ghost use Rattle.choosing.specs.Choosing.{table, formedAt, chosenIn, toldChosen, Decided};
-ghost use Rattle.choosing.specs.Passes.{foundOr, rankedOf, betterOf, foundBelow};
+ghost use Rattle.choosing.specs.Choosing.{table, formedAt, likeFirst, firstFailing, chosenIn, toldChosen, Decided};
+ghost use Rattle.choosing.specs.Passes.{placeOr, foundOr, rankedOf, betterOf, foundBelow};
 use ranking::Order;
 use refusals::Fault;
 use refusals::FlowSpecError;
+use refusals::OuterError;
 use refusals::Place;
 
 // The place of the rule that decides, or that none matches.
@@ -126,6 +128,21 @@ fn find(
     }
 }
 
+// The first place whose rule has another distinguisher than the rule at place 0, or the number of rules where there is none.
+fn first_other(words: &[u64], n: usize) -> usize
+    requires { ⌜ 64 * n ≤ length (now words) ⌝ }
+    ensures { λ r. ⌜ r ≡ placeOr n (firstFailing (likeFirst (table (now (words .entry)) [] [])) n) ⌝ }
+{
+    let mut i: usize = 0;
+    while i < n {
+        if !stored::same_distinguisher(words, 64 * i, words, 0) {
+            return i;
+        }
+        i += 1;
+    }
+    n
+}
+
 fn refused(error: FlowSpecError) -> Chosen
     ensures { λ r. ⌜ r ≡ Chosen.Refused (record { error = error; place = Place.Nowhere }) ⌝ }
 {
@@ -158,6 +175,10 @@ pub fn choose(words: &[u64], values: &[u64], octets: &[u8], packet: &[u64]) -> C
     let mixed = f.mixed;
     if mixed < n {
         return refused(FlowSpecError::MixedFamily(mixed));
+    }
+    let other = first_other(words, n);
+    if other < n {
+        return refused(FlowSpecError::Outer(OuterError::MixedDistinguisher(other)));
     }
     let best = f.best;
     if best < n {

@@ -2,7 +2,7 @@
 -- in 9, NoRoom, alone (`check-short`).
 use Prim.Native.Nat.{ℕ, _≤_}
 use mathlib.Core.Path.{_≡_, refl, sym, ap, _∙_}
-use mathlib.Core.Bool.{true, false≢true}
+use mathlib.Core.Bool.{Bool, true, false≢true}
 use mathlib.Core.List.{List, [], _∷_}
 use mathlib.Core.Logic.{_⊎_, inl, inr}
 use native.Mathlib.Omega.{arith}
@@ -103,13 +103,13 @@ roomed-short (accepts r) words values octets =
     (λ f. inl (rw (e, f))))
 
 -- of whichever reading a call asks for
-pub check-roomed : (a : Answer Reading) (s : List ℕ) (words values octets : ℕ) → 64 ≤ words → length (operatorsOf (byCheck a s)) ≤ values → length (operatorsOf (byCheck a s)) ≤ octets
-    → byReading a s words values octets ≡ byCheck a s
+pub check-roomed : (a : Answer Reading) (rd : Bool) (s : List ℕ) (words values octets : ℕ) → 64 ≤ words → length (operatorsOf (byCheck a rd s)) ≤ values → length (operatorsOf (byCheck a rd s)) ≤ octets
+    → byReading a rd s words values octets ≡ byCheck a rd s
 unfolding readInto
-check-roomed (accepts reading) s words values octets h k l = roomed-all (readAt reading s) words values octets h k l
-check-roomed (declines f) s words values octets h k l = refl
+check-roomed (accepts reading) rd s words values octets h k l = roomed-all (readAt reading rd s) words values octets h k l
+check-roomed (declines f) rd s words values octets h k l = refl
 
-pub check-short : (a : Answer Reading) (s : List ℕ) (words values octets : ℕ) → (byReading a s words values octets ≡ byCheck a s) ⊎ Short (byCheck a s) (byReading a s words values octets)
+pub check-short : (a : Answer Reading) (rd : Bool) (s : List ℕ) (words values octets : ℕ) → (byReading a rd s words values octets ≡ byCheck a rd s) ⊎ Short (byCheck a rd s) (byReading a rd s words values octets)
 unfolding readInto
-check-short (accepts reading) s words values octets = roomed-short (readAt reading s) words values octets
-check-short (declines f) s words values octets = inl refl
+check-short (accepts reading) rd s words values octets = roomed-short (readAt reading rd s) words values octets
+check-short (declines f) rd s words values octets = inl refl

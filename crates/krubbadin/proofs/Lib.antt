@@ -1,3 +1,4 @@
 pub mod Checks
 pub mod Placed
 pub mod Posts
+pub mod VirtualNetworks

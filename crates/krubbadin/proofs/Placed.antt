@@ -2,6 +2,7 @@
 -- that are compared with the Rust's are those of the answer without its place. And all ones stand for no place alone.
 use Prim.Native.Nat.{ℕ, _-_, _^_, _<_}
 use mathlib.Core.Path.{_≡_, refl}
+use mathlib.Core.Bool.{Bool}
 use mathlib.Core.List.{List}
 use native.Mathlib.Omega.{arith}
 use lib.ListN.{getD}
@@ -30,5 +31,5 @@ by-place : (p : Place) → ((n : ℕ) → p ≡ at-octet n → n ≡ 2 ^ 64 - 1 
 by-place nowhere h e = refl
 by-place (at-octet n) h e = absurd (h n refl e)
 
-pub all-ones : (r : Reading) (s : List ℕ) → ((i : ℕ) → getD s i 0 < 256) → {f : Refused} → readAt r s ≡ declines f → placeNumber (f .place) ≡ 2 ^ 64 - 1 → f .place ≡ nowhere
-all-ones r s o {f} e z = by-place (f .place) (λ n i j. let m = place-most r s e i o in omega arith) z
+pub all-ones : (r : Reading) (rd : Bool) (s : List ℕ) → ((i : ℕ) → getD s i 0 < 256) → {f : Refused} → readAt r rd s ≡ declines f → placeNumber (f .place) ≡ 2 ^ 64 - 1 → f .place ≡ nowhere
+all-ones r rd s o {f} e z = by-place (f .place) (λ n i j. let m = place-most r rd s e i o in omega arith) z

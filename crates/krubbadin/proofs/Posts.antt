@@ -1,6 +1,6 @@
 -- What a reading or a writing leaves behind, told of the one that a number names.
 use mathlib.Core.Path.{_≡_, refl, sym, ap, subst, _∙_}
-use mathlib.Core.Bool.{true}
+use mathlib.Core.Bool.{Bool, true}
 use mathlib.Core.List.{List, map}
 use Prim.Native.Nat.{ℕ}
 use lib.ListN.{length}
@@ -16,30 +16,30 @@ use Rattle.krubbadin.proofs.Checks.{told-refused}
 use Rattle.krubbadin.specs.declared.KrubbadinAnswer.{KrubbadinAnswer}
 use Rattle.krubbadin.specs.Surface.{readAnswer, byCheck, writtenAnswer, byWriting}
 
-abbrev pub Post : List ℕ → List ℕ → List ℕ → List ℕ → KrubbadinAnswer → List ℕ → List ℕ → List ℕ → Answer Reading → Type 0
-Post s ws vs os r ws′ vs′ os′ a =
-    (r ≡ readAnswer (takenOf (byReading a s (length ws) (length vs) (length os))))
-    × ((ws′ ≡ sets ws 0 (wordsOf (byReading a s (length ws) (length vs) (length os))))
-    × ((vs′ ≡ sets vs 0 (map numberOf (operatorsOf (byReading a s (length ws) (length vs) (length os)))))
-    × (os′ ≡ sets os 0 (map octetOf (operatorsOf (byReading a s (length ws) (length vs) (length os)))))))
+abbrev pub Post : Bool → List ℕ → List ℕ → List ℕ → List ℕ → KrubbadinAnswer → List ℕ → List ℕ → List ℕ → Answer Reading → Type 0
+Post rd s ws vs os r ws′ vs′ os′ a =
+    (r ≡ readAnswer (takenOf (byReading a rd s (length ws) (length vs) (length os))))
+    × ((ws′ ≡ sets ws 0 (wordsOf (byReading a rd s (length ws) (length vs) (length os))))
+    × ((vs′ ≡ sets vs 0 (map numberOf (operatorsOf (byReading a rd s (length ws) (length vs) (length os)))))
+    × (os′ ≡ sets os 0 (map octetOf (operatorsOf (byReading a rd s (length ws) (length vs) (length os)))))))
 
-pub named : (s ws vs os : List ℕ) {r : KrubbadinAnswer} {ws′ vs′ os′ : List ℕ} {a b : Answer Reading} → a ≡ b → Post s ws vs os r ws′ vs′ os′ a → Post s ws vs os r ws′ vs′ os′ b
-named s ws vs os {r} {ws′} {vs′} {os′} e p = subst (λ (x : Answer Reading). Post s ws vs os r ws′ vs′ os′ x) e p
+pub named : (rd : Bool) (s ws vs os : List ℕ) {r : KrubbadinAnswer} {ws′ vs′ os′ : List ℕ} {a b : Answer Reading} → a ≡ b → Post rd s ws vs os r ws′ vs′ os′ a → Post rd s ws vs os r ws′ vs′ os′ b
+named rd s ws vs os {r} {ws′} {vs′} {os′} e p = subst (λ (x : Answer Reading). Post rd s ws vs os r ws′ vs′ os′ x) e p
 
 -- what a check refuses, a reading does, and leaves everything as it came
-pub refused-check : (s ws vs os : List ℕ) (r : KrubbadinAnswer) (a : Answer Reading) → r ≡ readAnswer (takenOf (byCheck a s)) → (r .status ≡ 0 → ⊥) → Post s ws vs os r ws vs os a
-refused-check s ws vs os r (accepts reading) e z =
-    let q = told-refused r (readAt reading s) e z in
-    let p = test-refused reading s ws vs os q in
+pub refused-check : (rd : Bool) (s ws vs os : List ℕ) (r : KrubbadinAnswer) (a : Answer Reading) → r ≡ readAnswer (takenOf (byCheck a rd s)) → (r .status ≡ 0 → ⊥) → Post rd s ws vs os r ws vs os a
+refused-check rd s ws vs os r (accepts reading) e z =
+    let q = told-refused r (readAt reading rd s) e z in
+    let p = test-refused reading rd s ws vs os q in
     (e ∙ sym (ap readAnswer q) ∙ ap readAnswer (p .0), p .1)
-refused-check s ws vs os r (declines f) e z = (e, (refl, (refl, refl)))
+refused-check rd s ws vs os r (declines f) e z = (e, (refl, (refl, refl)))
 
 -- and a check
-abbrev pub Checked : List ℕ → KrubbadinAnswer → Answer Reading → Type 0
-Checked s r a = (r ≡ readAnswer (takenOf (byCheck a s))) × (r .status ≡ 0 → isRead (byCheck a s) ≡ true)
+abbrev pub Checked : Bool → List ℕ → KrubbadinAnswer → Answer Reading → Type 0
+Checked rd s r a = (r ≡ readAnswer (takenOf (byCheck a rd s))) × (r .status ≡ 0 → isRead (byCheck a rd s) ≡ true)
 
-pub named-check : (s : List ℕ) {r : KrubbadinAnswer} {a b : Answer Reading} → a ≡ b → Checked s r a → Checked s r b
-named-check s {r} e p = subst (λ (x : Answer Reading). Checked s r x) e p
+pub named-check : (rd : Bool) (s : List ℕ) {r : KrubbadinAnswer} {a b : Answer Reading} → a ≡ b → Checked rd s r a → Checked rd s r b
+named-check rd s {r} e p = subst (λ (x : Answer Reading). Checked rd s r x) e p
 
 abbrev pub Wrote : List ℕ → List ℕ → List ℕ → List ℕ → KrubbadinAnswer → List ℕ → Answer Reading → Type 0
 Wrote ws vs os out r out′ a =

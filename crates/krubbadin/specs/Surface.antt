@@ -1,6 +1,7 @@
 -- What the exported functions answer: the definitions' answers in four numbers. A refusal's number is 1 or more, it carries at most two
 -- numbers, and no place is as large as the number that stands for none, so nothing is lost.
 use Prim.Native.Nat.{ℕ, _-_, _^_}
+use mathlib.Core.Bool.{Bool}
 use mathlib.Core.List.{List}
 use lib.ListN.{getD}
 use Rattle.ground.specs.Answers.{Place, nowhere, at-octet, Refused, Answer, accepts, declines}
@@ -34,9 +35,9 @@ unfoldable pub whichOf : ℕ → ℕ → Answer Reading
 whichOf standard family = pick (eqb standard 0) (accepts Plain) (standardOf family)
 
 -- a check: what the input is to that reading by itself, whatever room a reading would have
-abbrev pub byCheck : Answer Reading → List ℕ → Answer ReadRule
-byCheck (accepts reading) s = readAt reading s
-byCheck (declines f) s = declines f
+abbrev pub byCheck : Answer Reading → Bool → List ℕ → Answer ReadRule
+byCheck (accepts reading) expected s = readAt reading expected s
+byCheck (declines f) expected s = declines f
 
 -- a writing: the octets written
 abbrev pub writtenAnswer : Answer ℕ → KrubbadinAnswer

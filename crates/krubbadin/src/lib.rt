@@ -6,7 +6,7 @@ ghost use mathlib.Core.List.{map};
 ghost use lib.ListN.{length};
 ghost use lib.Seq.{sets};
 ghost use Rattle.operators.specs.Ops.{octetOf, numberOf};
-ghost use Rattle.choices.specs.Choices.{toldStandard};
+ghost use Rattle.choices.specs.Choices.{expects, toldStandard};
 ghost use Rattle.refusals.specs.Refusals.{told, placeOf};
 ghost use Rattle.reading.specs.Readings.{toldInto, readAt, readInto, byReading, takenOf, wordsOf, operatorsOf};
 ghost use Rattle.measuring.specs.Grounds.{counted};
@@ -87,11 +87,11 @@ fn named_by(standard: u8, family: u8) -> Standard
 // lent to be written. `standard` and `family` are those of a reading.
 #[no_mangle]
 pub extern "C" fn krubbadin_check(standard: u8, family: u8, input: &[u8]) -> KrubbadinAnswer
-    ensures answer { λ r. ⌜ r ≡ readAnswer (takenOf (byCheck (whichOf standard family) (now (input .entry)))) ⌝ }
-    ensures sure { λ r. ⌜ (r .status ≡ 0 → isRead (byCheck (whichOf standard family) (now (input .entry))) ≡ true) ⌝ }
+    ensures answer { λ r. ⌜ r ≡ readAnswer (takenOf (byCheck (whichOf standard family) (expects standard) (now (input .entry)))) ⌝ }
+    ensures sure { λ r. ⌜ (r .status ≡ 0 → isRead (byCheck (whichOf standard family) (expects standard) (now (input .entry))) ≡ true) ⌝ }
 {
     match named_by(standard, family) {
-        Standard::Is(reading) => read_answer(reading::test(reading, input)),
+        Standard::Is(reading) => read_answer(reading::test(reading, standard, input)),
         Standard::Refused(fault) => refused(fault),
     }
 }
@@ -100,17 +100,18 @@ pub extern "C" fn krubbadin_check(standard: u8, family: u8, input: &[u8]) -> Kru
 // `second` and `place` at once, which waits for both to be stored.
 fn store_checked(
     reading: Reading,
+    mode: u8,
     input: &[u8],
     checked: KrubbadinAnswer,
     words: &mut [u64],
     values: &mut [u64],
     octets: &mut [u8],
 ) -> KrubbadinAnswer
-    requires { ⌜ (checked ≡ readAnswer (takenOf (readAt reading (now input)))) × (isRead (readAt reading (now input)) ≡ true) ⌝ }
-    ensures answer { λ r. ⌜ r ≡ readAnswer (takenOf (readInto reading (now (input .entry)) (length (now (words .entry))) (length (now (values .entry))) (length (now (octets .entry))))) ⌝ }
-    ensures words { λ r. ⌜ now (words .exit) ≡ sets (now (words .entry)) 0 (wordsOf (readInto reading (now (input .entry)) (length (now (words .entry))) (length (now (values .entry))) (length (now (octets .entry))))) ⌝ }
-    ensures values { λ r. ⌜ now (values .exit) ≡ sets (now (values .entry)) 0 (map numberOf (operatorsOf (readInto reading (now (input .entry)) (length (now (words .entry))) (length (now (values .entry))) (length (now (octets .entry)))))) ⌝ }
-    ensures octets { λ r. ⌜ now (octets .exit) ≡ sets (now (octets .entry)) 0 (map octetOf (operatorsOf (readInto reading (now (input .entry)) (length (now (words .entry))) (length (now (values .entry))) (length (now (octets .entry)))))) ⌝ }
+    requires { ⌜ (checked ≡ readAnswer (takenOf (readAt reading (expects mode) (now input)))) × (isRead (readAt reading (expects mode) (now input)) ≡ true) ⌝ }
+    ensures answer { λ r. ⌜ r ≡ readAnswer (takenOf (readInto reading (expects mode) (now (input .entry)) (length (now (words .entry))) (length (now (values .entry))) (length (now (octets .entry))))) ⌝ }
+    ensures words { λ r. ⌜ now (words .exit) ≡ sets (now (words .entry)) 0 (wordsOf (readInto reading (expects mode) (now (input .entry)) (length (now (words .entry))) (length (now (values .entry))) (length (now (octets .entry))))) ⌝ }
+    ensures values { λ r. ⌜ now (values .exit) ≡ sets (now (values .entry)) 0 (map numberOf (operatorsOf (readInto reading (expects mode) (now (input .entry)) (length (now (words .entry))) (length (now (values .entry))) (length (now (octets .entry)))))) ⌝ }
+    ensures octets { λ r. ⌜ now (octets .exit) ≡ sets (now (octets .entry)) 0 (map octetOf (operatorsOf (readInto reading (expects mode) (now (input .entry)) (length (now (words .entry))) (length (now (values .entry))) (length (now (octets .entry)))))) ⌝ }
 {
     let lack = reading::lacking(
         checked.second as usize,
@@ -128,6 +129,7 @@ fn store_checked(
     }
     reading::store(
         reading,
+        mode,
         input,
         checked.first as usize,
         words,
@@ -155,17 +157,25 @@ pub extern "C" fn krubbadin_read(
     values: &mut [u64],
     octets: &mut [u8],
 ) -> KrubbadinAnswer
-    ensures answer { λ r. ⌜ r ≡ readAnswer (takenOf (byReading (whichOf standard family) (now (input .entry)) (length (now (words .entry))) (length (now (values .entry))) (length (now (octets .entry))))) ⌝ }
-    ensures words { λ r. ⌜ now (words .exit) ≡ sets (now (words .entry)) 0 (wordsOf (byReading (whichOf standard family) (now (input .entry)) (length (now (words .entry))) (length (now (values .entry))) (length (now (octets .entry))))) ⌝ }
-    ensures values { λ r. ⌜ now (values .exit) ≡ sets (now (values .entry)) 0 (map numberOf (operatorsOf (byReading (whichOf standard family) (now (input .entry)) (length (now (words .entry))) (length (now (values .entry))) (length (now (octets .entry)))))) ⌝ }
-    ensures octets { λ r. ⌜ now (octets .exit) ≡ sets (now (octets .entry)) 0 (map octetOf (operatorsOf (byReading (whichOf standard family) (now (input .entry)) (length (now (words .entry))) (length (now (values .entry))) (length (now (octets .entry)))))) ⌝ }
+    ensures answer { λ r. ⌜ r ≡ readAnswer (takenOf (byReading (whichOf standard family) (expects standard) (now (input .entry)) (length (now (words .entry))) (length (now (values .entry))) (length (now (octets .entry))))) ⌝ }
+    ensures words { λ r. ⌜ now (words .exit) ≡ sets (now (words .entry)) 0 (wordsOf (byReading (whichOf standard family) (expects standard) (now (input .entry)) (length (now (words .entry))) (length (now (values .entry))) (length (now (octets .entry))))) ⌝ }
+    ensures values { λ r. ⌜ now (values .exit) ≡ sets (now (values .entry)) 0 (map numberOf (operatorsOf (byReading (whichOf standard family) (expects standard) (now (input .entry)) (length (now (words .entry))) (length (now (values .entry))) (length (now (octets .entry)))))) ⌝ }
+    ensures octets { λ r. ⌜ now (octets .exit) ≡ sets (now (octets .entry)) 0 (map octetOf (operatorsOf (byReading (whichOf standard family) (expects standard) (now (input .entry)) (length (now (words .entry))) (length (now (values .entry))) (length (now (octets .entry)))))) ⌝ }
 {
     let checked = krubbadin_check(standard, family, input);
     if checked.status != 0 {
         return checked;
     }
     match named_by(standard, family) {
-        Standard::Is(reading) => store_checked(reading, input, checked, words, values, octets),
+        Standard::Is(reading) => store_checked(
+            reading,
+            standard,
+            input,
+            checked,
+            words,
+            values,
+            octets,
+        ),
         Standard::Refused(fault) => refused(fault),
     }
 }

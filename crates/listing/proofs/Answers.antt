@@ -2,6 +2,7 @@
 -- the rule's operators. And what it answers then.
 use Prim.Native.Nat.{ℕ, zero, suc, _+_, _≤_, _<_}
 use mathlib.Core.Path.{_≡_, refl, sym, ap, ap₂, _∙_, subst}
+use mathlib.Core.Bool.{false}
 use mathlib.Core.List.{List, [], _∷_, _++_, map}
 use mathlib.Core.Logic.{⊎-elim}
 use native.Mathlib.Omega.{arith}
@@ -74,7 +75,7 @@ module _ (vs ws os us : List ℕ) (p : Same vs ws) (q : Same os us) where
   rule-same used ps = rw (components-same ps)
 
 -- ---- what was read
-as-accepted : (s : List ℕ) (r : ReadRule) → listedAt s ≡ accepts r → (length s ≤ 4097) × (readAt Ipv4 s ≡ accepts r)
+as-accepted : (s : List ℕ) (r : ReadRule) → listedAt s ≡ accepts r → (length s ≤ 4097) × (readAt Ipv4 false s ≡ accepts r)
 as-accepted s r e =
     ⊎-elim (λ h. never (sym (over-long s h) ∙ e)) (λ h. (h, sym (read-whole s h) ∙ e)) (lt-or-le 4097 (length s))
 
@@ -96,14 +97,14 @@ unfolding piecesFrom
 listing-of s o (accepts r) e =
     let h = as-accepted s r e in
     let b = rule-backed s r (h .0) (h .1) in
-    let g = read-rule Ipv4 s r o (h .1) in
+    let g = read-rule Ipv4 false s r o (h .1) in
     let n = g .few in
-    let y = read-family Ipv4 s r (h .1) in
+    let y = read-family Ipv4 false s r (h .1) in
     let f = b .few in
     let vs = map numberOf (r .operators) in
     let os = map octetOf (r .operators) in
     let w = sets (blank 64) 0 (wordsOf (accepts r)) in
-    let x = accepted w 0 _ (put-read (r .pieces) (head (r .family) 0) (omega arith) (g .fit) (omega arith) (blank 64) 0 (omega arith)) in
+    let x = accepted w 0 _ (put-read (r .pieces) (head (r .family) 0 (r .distinguisher)) (omega arith) (g .fit) (omega arith) (blank 64) 0 (omega arith)) in
     record {
       pieces = sym (ap (λ (z : StoredRule). z .pieces) (x .2));
       few = omega arith;

@@ -1,7 +1,8 @@
 -- Where the components of a rule that was read find their operators: each names places below their number, and there are 2,047 at most. By induction
 -- over the chain of components: a list takes the next places, and an operator two octets or more.
-use Prim.Native.Nat.{ℕ, zero, suc, _+_, _*_, _≤_}
+use Prim.Native.Nat.{ℕ, zero, suc, _+_, _-_, _*_, _≤_}
 use mathlib.Core.Path.{_≡_, refl, sym, _∙_, subst}
+use mathlib.Core.Bool.{false}
 use mathlib.Core.List.{List, [], _∷_}
 use mathlib.Core.Logic.{⊎-elim}
 use native.Mathlib.Omega.{arith}
@@ -114,16 +115,16 @@ none-of : (ps : List Piece) → length ps ≡ 0 → allCounts ps ≡ 0
 none-of [] e = refl
 none-of (p ∷ ps) e = absurd (omega arith)
 
-pub rule-backed : (s : List ℕ) (rule : ReadRule) → length s ≤ 4097 → readAt Ipv4 s ≡ accepts rule → BackedRule rule
+pub rule-backed : (s : List ℕ) (rule : ReadRule) → length s ≤ 4097 → readAt Ipv4 false s ≡ accepts rule → BackedRule rule
 rule-backed s rule h e =
-    let w = read-walked Ipv4 s rule e in
+    let w = read-walked Ipv4 false s rule e in
     let a = w .stated .next .at in
     let n = w .stated .size in
     let p = starts s (w .first) .1 in
     let m = start-least (getD s 0 0) in
-    let c = walk-chained Ipv4 (part s a (a + n)) n (w .given) (w .walked) in
+    let c = walk-chained Ipv4 (part s (a + 0) (a + n)) (n - 0) (w .given) (w .walked) in
     let x = chain-passed (c .chain) in
-    let l : length (part s a (a + n)) ≤ n = simp (length-take, length-drop) (omega arith) in
+    let l : length (part s (a + 0) (a + n)) ≤ n = simp (length-take, length-drop) (omega arith) in
     subst BackedRule (w .is)
     (record {
       few = ⊎-elim (λ k. omega (arith, x .long, c .within, w .within)) (λ k. let y = none-of (w .given .pieces) (omega arith) in omega (arith, x .total)) (lt-or-le 0 (length (w .given .pieces)));

@@ -1,5 +1,6 @@
 -- What flowlist prints: document 01, "The program flowlist reads standard input by the IPv4 reading". Each line ends in a newline, the last too.
 use Prim.Native.Nat.{ℕ}
+use mathlib.Core.Bool.{false}
 use mathlib.Core.List.{List, [], _∷_, _++_, map}
 use lib.Dec.{ltb}
 use lib.ListN.{length}
@@ -87,7 +88,7 @@ answerLines (declines f) = refusalLines f
 
 -- "Over 4,097 octets of input prints status 8 with detail 4098, since it stops reading there"
 unfoldable pub listedAt : List ℕ → Answer ReadRule
-listedAt s = pick (ltb 4097 (length s)) (refuses 8 (4098 ∷ [])) (readAt Ipv4 s)
+listedAt s = pick (ltb 4097 (length s)) (refuses 8 (4098 ∷ [])) (readAt Ipv4 false s)
 
 -- the listing of an input
 abbrev pub listingOf : List ℕ → List ℕ

@@ -325,7 +325,7 @@ fn read_listed(input: &[u8], words: &mut [u64], values: &mut [u64], octets: &mut
             place: Place::Nowhere,
         });
     }
-    reading::read_into(Reading::Ipv4, input, words, values, octets)
+    reading::read_into(Reading::Ipv4, 1, input, words, values, octets)
 }
 
 // The listing of an input, from the output's start on, or NoRoom and nothing. The longest rule has 2,047 operators.

@@ -8,7 +8,8 @@ use borrow.Author.Tests.{lt-leb}
 use native.Mathlib.Omega.{arith}
 use native.Mathlib.Decide.{decLt}
 use lib.ListN.{length, getD, take, drop, set, length-set}
-use lib.Seq.{sets, set-set, set-comm, getD-set-same, getD-set-other}
+use lib.Seq.{sets, set-set, getD-set-same, getD-set-other}
+use Rattle.ground.proofs.Overlays.{set-before}
 use Rattle.ground.specs.Answers.{Answer, accepts, declines}
 use Rattle.ground.proofs.Cases.{by-cases}
 use Rattle.octets.specs.Widths.{codeIn, widthOf}
@@ -157,13 +158,7 @@ module _ {k : Kind} {s : List ℕ} {start : ℕ} {vs₀ os₀ : List ℕ} {at₀
       let z = some-op s at (f .whole) in
       (omega (arith, f .in-values), omega (arith, f .in-octets))
 
--- a place before an overlay: what is stored there before or after it, and what stands there
-set-before : (l xs : List ℕ) (i j y : ℕ) → j < i → set (sets l i xs) j y ≡ sets (set l j y) i xs
-set-before l [] i j y h = refl
-set-before l (x ∷ xs) i j y h =
-    set-before (set l i x) xs (suc i) j y (omega arith)
-    ∙ ap (λ (m : List ℕ). sets m (suc i) xs) (set-comm l i j x y (λ e. omega arith))
-
+-- what stands at a place before an overlay
 get-before : (l xs : List ℕ) (i j : ℕ) → j < i → getD (sets l i xs) j 0 ≡ getD l j 0
 get-before l [] i j h = refl
 get-before l (x ∷ xs) i j h = get-before (set l i x) xs (suc i) j (omega arith) ∙ getD-set-other l i j x 0 (λ e. omega arith)

@@ -21,7 +21,10 @@ use Rattle.stored.specs.Pieces.{typeOf, isRecord, pieceAt}
 use Rattle.stored.specs.Stored.{piecesFrom, recordsFrom}
 use Rattle.listwriting.specs.Lists.{takes, narrow, takesIn}
 use Rattle.listwriting.proofs.Laws.{takes-none}
-use Rattle.measuring.specs.Bodies.{Lent, opsOf, prefixOctets, pieceOctets, bodyOctets}
+use Rattle.octets.proofs.Spells.{length-spelled}
+use Rattle.rules.specs.declared.Distinguisher.{Distinguisher}
+use Rattle.rules.specs.declared.Distinguisher.the-variants.{Absent, Is}
+use Rattle.measuring.specs.Bodies.{Lent, opsOf, prefixOctets, pieceOctets, bodyOctets, distinguisherOctets, eightOf, wholeOctets}
 use Rattle.measuring.specs.Grounds.{operatorsIn, allOperators, insideOf, prefixTaken, listTaken, pieceTaken, allTaken, risesIn, inOrder, takenAfter, bodyTaken, bodyOf}
 use Rattle.measuring.proofs.Insides.{inside-both}
 
@@ -181,12 +184,22 @@ operators-more p ps = refl
 
 -- ---- a body
 
+-- a distinguisher takes eight octets, if it is written
+eight-most : (d : Distinguisher) → length (eightOf d) ≤ 8
+eight-most Absent = omega arith
+eight-most (Is n) = omega (arith, length-spelled 8 n)
+
+pub distinguisher-most : (w : Reading) (d : Distinguisher) → length (distinguisherOctets w d) ≤ 8
+distinguisher-most Plain d = omega arith
+distinguisher-most Ipv4 d = eight-most d
+distinguisher-most Ipv6 d = eight-most d
+
 -- what a body that a writing takes shows, and needs
-pub record Taken (w : Reading) (l : Lent) (ps : List Piece) : Type 0 where
+pub record Taken (w : Reading) (l : Lent) (d : Distinguisher) (ps : List Piece) : Type 0 where
   pub few : allOperators ps ≤ 2047
   pub each : allTaken w l ps ≡ true
   pub order : inOrder w 0 ps ≡ true
-  pub most : length (bodyOctets w l ps) ≤ 4095
+  pub most : length (wholeOctets w l d ps) ≤ 4095
 
 module _ (w : Reading) (l : Lent) (ps : List Piece) where
   tests : bodyTaken w l ps ≡ true → (allOperators ps ≤ 2047) × (allTaken w l ps ≡ true) × (inOrder w 0 ps ≡ true)
@@ -199,22 +212,22 @@ module _ (w : Reading) (l : Lent) (ps : List Piece) where
   same : {xs ys : List ℕ} → accepts xs ≡ accepts ys → xs ≡ ys
   same e = cc
 
-  pub body-shows : (xs : List ℕ) → bodyOf w l ps ≡ accepts xs → Taken w l ps × (xs ≡ bodyOctets w l ps)
+  pub body-shows : (d : Distinguisher) (xs : List ℕ) → bodyOf w l d ps ≡ accepts xs → Taken w l d ps × (xs ≡ wholeOctets w l d ps)
   unfolding bodyOf
-  body-shows xs e =
+  body-shows d xs e =
       by-test (bodyTaken w l ps)
-      (λ t. by-test (ltb 4095 (length (bodyOctets w l ps)))
+      (λ t. by-test (ltb 4095 (length (wholeOctets w l d ps)))
       (λ m. never (rw (t, m) at e))
       (λ m.
       let a = tests t in
-      (record { few = a .0; each = a .1; order = a .2; most = ltb-false 4095 (length (bodyOctets w l ps)) m }, sym (same (rw (t, m) at e)))))
+      (record { few = a .0; each = a .1; order = a .2; most = ltb-false 4095 (length (wholeOctets w l d ps)) m }, sym (same (rw (t, m) at e)))))
       (λ t. never (rw t at e))
 
-  pub body-needs : Taken w l ps → bodyOf w l ps ≡ accepts (bodyOctets w l ps)
+  pub body-needs : (d : Distinguisher) → Taken w l d ps → bodyOf w l d ps ≡ accepts (wholeOctets w l d ps)
   unfolding bodyOf takenAfter
-  body-needs h = rw (le-leb (allOperators ps) 2047 (h .few), h .each, h .order, le-ltb 4095 (length (bodyOctets w l ps)) (h .most))
+  body-needs d h = rw (le-leb (allOperators ps) 2047 (h .few), h .each, h .order, le-ltb 4095 (length (wholeOctets w l d ps)) (h .most))
 
   -- a piece that is not taken, a record or not, is BadRecord
-  pub body-bad : allTaken w l ps ≡ false → bodyOf w l ps ≡ refuses 10 []
+  pub body-bad : (d : Distinguisher) → allTaken w l ps ≡ false → bodyOf w l d ps ≡ refuses 10 []
   unfolding bodyOf takenAfter
-  body-bad e = by-test (leb (allOperators ps) 2047) (λ a. rw (a, e)) (λ a. rw a)
+  body-bad d e = by-test (leb (allOperators ps) 2047) (λ a. rw (a, e)) (λ a. rw a)

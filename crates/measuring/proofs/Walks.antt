@@ -14,7 +14,8 @@ use Rattle.choices.specs.declared.Reading.{Reading}
 use Rattle.stored.specs.declared.Piece.{Piece}
 use Rattle.stored.specs.Pieces.{typeOf, pieceAt}
 use Rattle.stored.specs.Stored.{piecesFrom}
-use Rattle.measuring.specs.Bodies.{Lent, pieceOctets, bodyOctets}
+use Rattle.rules.specs.declared.Distinguisher.{Distinguisher}
+use Rattle.measuring.specs.Bodies.{Lent, distinguisherOctets, pieceOctets, bodyOctets, wholeOctets}
 use Rattle.measuring.specs.Grounds.{operatorsIn, allOperators, pieceTaken, allTaken, risesIn, inOrder, takenAfter, bodyTaken, bodyOf, counted}
 use Rattle.measuring.specs.Weights.{fitsAfter, weightOf}
 use Rattle.measuring.proofs.Tests.{and-false, leb-rest}
@@ -55,11 +56,11 @@ body-longer w l p ps = length-append (pieceOctets w l p) (bodyOctets w l ps)
 abbrev pub told : Bool → ℕ → Answer ℕ
 told b n = pick b (pick (ltb 4095 n) (refuses 7 (n ∷ [])) (accepts n)) (refuses 10 [])
 
-told-body : (w : Reading) (l : Lent) (ps : List Piece) → counted (bodyOf w l ps) ≡ told (bodyTaken w l ps) (length (bodyOctets w l ps))
+told-body : (w : Reading) (l : Lent) (d : Distinguisher) (ps : List Piece) → counted (bodyOf w l d ps) ≡ told (bodyTaken w l ps) (length (wholeOctets w l d ps))
 unfolding bodyOf
-told-body w l ps =
+told-body w l d ps =
     by-test (bodyTaken w l ps)
-    (λ e. by-test (ltb 4095 (length (bodyOctets w l ps))) (λ f. rw (e, f)) (λ f. rw (e, f)))
+    (λ e. by-test (ltb 4095 (length (wholeOctets w l d ps))) (λ f. rw (e, f)) (λ f. rw (e, f)))
     (λ e. rw e)
 
 -- the walk after i of n places
@@ -67,12 +68,12 @@ module _ (w : Reading) (l : Lent) (ws : List ℕ) (n : ℕ) where
   abbrev pub restFrom : ℕ → ℕ → ℕ → ℕ → Answer ℕ
   restFrom i left previous body = told (takenAfter w l left previous (piecesFrom (n - i) ws (4 * i))) (body + length (bodyOctets w l (piecesFrom (n - i) ws (4 * i))))
 
-  pub walk-first : counted (bodyOf w l (piecesFrom n ws 0)) ≡ restFrom 0 2047 0 0
-  walk-first =
+  pub walk-first : (d : Distinguisher) {front : ℕ} → front ≡ length (distinguisherOctets w d) → counted (bodyOf w l d (piecesFrom n ws 0)) ≡ restFrom 0 2047 0 front
+  walk-first d {front} h =
       let e : n ≡ n - 0 = omega arith in
-      let f : length (bodyOctets w l (piecesFrom n ws 0)) ≡ 0 + length (bodyOctets w l (piecesFrom n ws 0)) = omega arith in
-      told-body w l (piecesFrom n ws 0) ∙ ap (told (bodyTaken w l (piecesFrom n ws 0))) f
-      ∙ ap (λ (k : ℕ). told (bodyTaken w l (piecesFrom k ws 0)) (0 + length (bodyOctets w l (piecesFrom k ws 0)))) e
+      told-body w l d (piecesFrom n ws 0)
+      ∙ ap (told (bodyTaken w l (piecesFrom n ws 0))) (length-append (distinguisherOctets w d) (bodyOctets w l (piecesFrom n ws 0)))
+      ∙ ap₂ (λ (k m : ℕ). told (bodyTaken w l (piecesFrom k ws 0)) (m + length (bodyOctets w l (piecesFrom k ws 0)))) e (sym h)
 
   module _ (i left previous body : ℕ) where
     walk-end : n ≤ i → restFrom i left previous body ≡ told true body

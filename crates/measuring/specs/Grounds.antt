@@ -12,6 +12,7 @@ use Rattle.choices.specs.declared.Reading.{Reading}
 use Rattle.choices.specs.declared.Reading.the-variants.{Plain, Ipv4, Ipv6}
 use Rattle.choices.specs.Choices.{lastType}
 use Rattle.operators.specs.Ops.{Op}
+use Rattle.rules.specs.declared.Distinguisher.{Distinguisher}
 use Rattle.rules.specs.declared.NetworkPrefix.{NetworkPrefix}
 use Rattle.prefixes.specs.Forms.{inRange, validIn}
 use Rattle.stored.specs.declared.Piece.{Piece}
@@ -20,7 +21,7 @@ use Rattle.stored.specs.Pieces.{typeOf}
 use Rattle.listwriting.specs.Lists.{takesIn}
 use Rattle.measuring.specs.declared.Measured.{Measured}
 use Rattle.measuring.specs.declared.Measured.the-variants.{Body, Refused}
-use Rattle.measuring.specs.Bodies.{Lent, opsOf, bodyOctets}
+use Rattle.measuring.specs.Bodies.{Lent, opsOf, wholeOctets}
 
 -- "and, their counts summed, 2,047 operators"
 abbrev pub operatorsIn : Piece → ℕ
@@ -78,11 +79,12 @@ takenAfter w l left previous ps = leb (allOperators ps) left && (allTaken w l ps
 abbrev pub bodyTaken : Reading → Lent → List Piece → Bool
 bodyTaken w l ps = takenAfter w l 2047 0 ps
 
--- the body, or why there is none: BadRecord; then "Bodies over 4095 octets are ValueTooLarge", with the body's length
-unfoldable pub bodyOf : Reading → Lent → List Piece → Answer (List ℕ)
-bodyOf w l ps =
-    pick (bodyTaken w l ps) (pick (ltb 4095 (length (bodyOctets w l ps))) (refuses 7 (length (bodyOctets w l ps) ∷ [])) (accepts (bodyOctets w l ps)))
-    (refuses 10 [])
+-- the body, or why there is none: BadRecord; then "Bodies over 4095 octets are ValueTooLarge", with the body's length, in which a distinguisher counts
+abbrev pub sizedBody : List ℕ → Answer (List ℕ)
+sizedBody body = pick (ltb 4095 (length body)) (refuses 7 (length body ∷ [])) (accepts body)
+
+unfoldable pub bodyOf : Reading → Lent → Distinguisher → List Piece → Answer (List ℕ)
+bodyOf w l d ps = pick (bodyTaken w l ps) (sizedBody (wholeOctets w l d ps)) (refuses 10 [])
 
 -- how many octets an answer has, and how many were measured, as it is told
 abbrev pub counted : Answer (List ℕ) → Answer ℕ

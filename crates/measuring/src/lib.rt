@@ -9,15 +9,17 @@ ghost use Prim.Native.Nat.{_+_, _*_, _<_, _≤_};
 ghost use lib.ListN.{length};
 ghost use Rattle.ground.specs.Picks.{pick};
 ghost use Rattle.stored.specs.Pieces.{pieceAt};
+ghost use Rattle.stored.specs.Distinguishers.{distinguisherAt};
 ghost use Rattle.stored.specs.Stored.{piecesFrom};
 ghost use Rattle.stored.specs.Views.{NoList};
-ghost use Rattle.measuring.specs.Bodies.{lent, prefixOctets};
+ghost use Rattle.measuring.specs.Bodies.{lent, prefixOctets, frontIn, distinguisherOctets};
 ghost use Rattle.measuring.specs.Grounds.{insideOf, prefixTaken, risesIn, bodyOf, counted, toldMeasured};
 ghost use Rattle.measuring.specs.Weights.{weightOf, prefixWeight, plainWeight, standardWeight, otherWeight, weighing};
 use choices::Reading;
 use refusals::Fault;
 use refusals::FlowSpecError;
 use refusals::Place;
+use rules::Distinguisher;
 use rules::NetworkPrefix;
 use stored::Piece;
 use wide::Wide;
@@ -356,7 +358,30 @@ fn weigh_at(
     weigh_other(writing, previous, stored::piece_at(words, at))
 }
 
-// The first walk, over so many components at the front of the words. No entry point.
+// The distinguisher that a writing puts before the components of the rule from a word on: the plain one does not look at it. No entry point.
+pub fn front_of(writing: Reading, words: &[u64], base: usize) -> Distinguisher
+    requires { ⌜ base + 64 ≤ length (now words) ⌝ }
+    ensures { λ r. ⌜ r ≡ frontIn writing (distinguisherAt (now (words .entry)) base) ⌝ }
+{
+    match writing {
+        Reading::Plain => Distinguisher::Absent,
+        Reading::Ipv4 => stored::distinguisher_at(words, base),
+        Reading::Ipv6 => stored::distinguisher_at(words, base),
+    }
+}
+
+// How many octets that is. No entry point.
+pub fn front_size(writing: Reading, words: &[u64], base: usize) -> usize
+    requires { ⌜ base + 64 ≤ length (now words) ⌝ }
+    ensures { λ r. ⌜ r ≡ length (distinguisherOctets writing (distinguisherAt (now (words .entry)) base)) ⌝ }
+{
+    match front_of(writing, words, base) {
+        Distinguisher::Absent => 0,
+        Distinguisher::Is(_) => 8,
+    }
+}
+
+// The first walk, over the distinguisher and so many components at the front of the words. No entry point.
 pub fn measure_body(
     writing: Reading,
     words: &[u64],
@@ -365,10 +390,10 @@ pub fn measure_body(
     values: &[u64],
     octets: &[u8],
 ) -> Measured
-    requires { ⌜ (count ≤ 13) × (4 * count ≤ length (now words)) ⌝ }
-    ensures { λ r. ⌜ toldMeasured r ≡ counted (bodyOf writing (lent (now (values .entry)) (now (octets .entry)) first) (piecesFrom count (now (words .entry)) 0)) ⌝ }
+    requires { ⌜ (count ≤ 13) × (64 ≤ length (now words)) ⌝ }
+    ensures { λ r. ⌜ toldMeasured r ≡ counted (bodyOf writing (lent (now (values .entry)) (now (octets .entry)) first) (distinguisherAt (now (words .entry)) 0) (piecesFrom count (now (words .entry)) 0)) ⌝ }
 {
-    let mut body: usize = 0;
+    let mut body = front_size(writing, words, 0);
     let mut left: usize = 2047;
     let mut previous: u8 = 0;
     let mut i: usize = 0;

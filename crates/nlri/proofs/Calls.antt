@@ -18,6 +18,7 @@ use Rattle.refusals.specs.Refusals.{refusal}
 use Rattle.choices.specs.declared.Reading.{Reading}
 use Rattle.choices.specs.declared.Reading.the-variants.{Plain}
 use Rattle.prefixes.proofs.Accepted.{Octets}
+use Rattle.rules.specs.declared.Distinguisher.the-variants.{Absent}
 use Rattle.rules.specs.declared.FlowSpecNlri.{FlowSpecNlri}
 use Rattle.rules.specs.Components.{holdsOne, componentsOf}
 use Rattle.stored.specs.Stored.{head, storedRule, allWords, tailWords, ruleWords, ruleAt}
@@ -36,21 +37,21 @@ use Rattle.nlri.specs.Calls.{nlriOf, writtenNlri}
 abbrev blank : List ℕ
 blank = replicate 64 0
 
-empty-back : ruleAt blank 0 ≡ accepts (storedRule [] (head 0 0))
+empty-back : ruleAt blank 0 ≡ accepts (storedRule [] (head 0 0 Absent))
 unfolding ruleWords tailWords allWords
-empty-back = put-read [] (head 0 0) (omega arith) tt (omega arith) blank 0 (omega arith)
+empty-back = put-read [] (head 0 0 Absent) (omega arith) tt (omega arith) blank 0 (omega arith)
 
-by-answer : (r : Reading) (s : List ℕ) (w v o : ℕ) → Octets s → (a : Answer ReadRule) → readInto r s w v o ≡ a → ruleIn (ruleAt (sets blank 0 (wordsOf a)) 0) ≡ nlriOf a
-by-answer r s w v o h (accepts rule) e =
-    let q = into-read r s w v o rule e in
-    let g = read-rule r s rule h q in
-    let f = read-family r s rule q in
+by-answer : (r : Reading) (rd : Bool) (s : List ℕ) (w v o : ℕ) → Octets s → (a : Answer ReadRule) → readInto r rd s w v o ≡ a → ruleIn (ruleAt (sets blank 0 (wordsOf a)) 0) ≡ nlriOf a
+by-answer r rd s w v o h (accepts rule) e =
+    let q = into-read r rd s w v o rule e in
+    let g = read-rule r rd s rule h q in
+    let f = read-family r rd s rule q in
     let l = family-octet r in
-    ap ruleIn (put-read (rule .pieces) (head (rule .family) 0) (omega (arith, g .few)) (g .fit) (omega arith) blank 0 (omega arith))
-by-answer r s w v o h (declines f) e = ap ruleIn empty-back
+    ap ruleIn (put-read (rule .pieces) (head (rule .family) 0 (rule .distinguisher)) (omega (arith, g .few)) (g .fit) (omega arith) blank 0 (omega arith))
+by-answer r rd s w v o h (declines f) e = ap ruleIn empty-back
 
-pub rule-back : (r : Reading) (s : List ℕ) (w v o : ℕ) → Octets s → ruleIn (ruleAt (sets blank 0 (wordsOf (readInto r s w v o))) 0) ≡ nlriOf (readInto r s w v o)
-rule-back r s w v o h = by-answer r s w v o h (readInto r s w v o) refl
+pub rule-back : (r : Reading) (rd : Bool) (s : List ℕ) (w v o : ℕ) → Octets s → ruleIn (ruleAt (sets blank 0 (wordsOf (readInto r rd s w v o))) 0) ≡ nlriOf (readInto r rd s w v o)
+rule-back r rd s w v o h = by-answer r rd s w v o h (readInto r rd s w v o) refl
 
 -- ---- writing
 module _ (ws : List ℕ) (r : FlowSpecNlri) (whole : length ws ≡ 64) (s : Stored) (told : toldStored s ≡ storeAnswer ws 0 r) where

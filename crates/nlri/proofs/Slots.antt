@@ -18,6 +18,8 @@ use Rattle.rules.proofs.Places.{place-in}
 use Rattle.stored.specs.declared.Piece.{Piece}
 use Rattle.stored.specs.declared.Piece.the-variants.{NoRecord}
 use Rattle.stored.specs.Pieces.{pieceWords, pieceAt, isRecord}
+use Rattle.rules.specs.declared.Distinguisher.{Distinguisher}
+use Rattle.stored.specs.Distinguishers.{distinguisherAt}
 use Rattle.stored.specs.Stored.{storedRule, allWords, countAt, familyAt, firstAt, piecesFrom, storedAt}
 use Rattle.stored.proofs.Words.{pieces-more, length-pieces}
 use Rattle.stored.proofs.Inverse.{Fit, FitAll}
@@ -55,11 +57,12 @@ module _ (ws : List ℕ) (at : ℕ) where
       ap (λ (ps : List Piece). storedRule ps (storedAt ws at .head))
       (ap (map apart) (covered-slots (storedAt ws at .pieces) _) ∙ pieces-again (countAt ws at) ws at)
 
-  pub rule-is : (slots : List Slot) (n f g : ℕ) → slots ≡ slotsOf (piecesFrom n ws at) → n ≡ countAt ws at → f ≡ familyAt ws at → g ≡ firstAt ws at
-      → _≡_ {A = FlowSpecNlri} (record { slots = slots; count = n; family = f; first = g }) (ruleOf (storedAt ws at))
-  rule-is slots n f g e c d h =
-      ap₂ (λ (s : List Slot) (m : ℕ). record { slots = s; count = m; family = f; first = g }) (e ∙ ap (λ (m : ℕ). slotsOf (piecesFrom m ws at)) c) (c ∙ sym (length-pieces (countAt ws at) ws at))
-      ∙ ap₂ (λ (x y : ℕ). record { slots = slotsOf (storedAt ws at .pieces); count = length (storedAt ws at .pieces); family = x; first = y }) d h
+  pub rule-is : (slots : List Slot) (n f g : ℕ) (i : Distinguisher) → slots ≡ slotsOf (piecesFrom n ws at) → n ≡ countAt ws at → f ≡ familyAt ws at → g ≡ firstAt ws at → i ≡ distinguisherAt ws at
+      → _≡_ {A = FlowSpecNlri} (record { slots = slots; count = n; family = f; first = g; distinguisher = i }) (ruleOf (storedAt ws at))
+  rule-is slots n f g i e c d h j =
+      ap₂ (λ (s : List Slot) (m : ℕ). record { slots = s; count = m; family = f; first = g; distinguisher = i }) (e ∙ ap (λ (m : ℕ). slotsOf (piecesFrom m ws at)) c) (c ∙ sym (length-pieces (countAt ws at) ws at))
+      ∙ ap₂ (λ (x y : ℕ). record { slots = slotsOf (storedAt ws at .pieces); count = length (storedAt ws at .pieces); family = x; first = y; distinguisher = i }) d h
+      ∙ ap (λ (x : Distinguisher). record { slots = slotsOf (storedAt ws at .pieces); count = length (storedAt ws at .pieces); family = familyAt ws at; first = firstAt ws at; distinguisher = x }) j
 
 -- what is stored of a rule gives its components back
 pub same-components : (r : FlowSpecNlri) → componentsOf (ruleOf (storedOf r)) ≡ componentsOf r

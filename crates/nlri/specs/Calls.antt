@@ -6,6 +6,7 @@ use lib.Dec.{ltb}
 use Rattle.ground.specs.Answers.{Answer, accepts, refuses, declines}
 use Rattle.ground.specs.Picks.{pick}
 use Rattle.choices.specs.declared.Reading.the-variants.{Plain}
+use Rattle.rules.specs.declared.Distinguisher.the-variants.{Absent}
 use Rattle.rules.specs.declared.FlowSpecNlri.{FlowSpecNlri}
 use Rattle.rules.specs.Components.{holdsOne, componentsOf}
 use Rattle.stored.specs.Stored.{head, storedRule}
@@ -15,8 +16,8 @@ use Rattle.nlri.specs.Nlri.{ruleOf, storedOf}
 
 -- what was read; the empty rule beside a refusal
 abbrev pub nlriOf : Answer ReadRule → FlowSpecNlri
-nlriOf (accepts r) = ruleOf (storedRule (r .pieces) (head (r .family) 0))
-nlriOf (declines f) = ruleOf (storedRule [] (head 0 0))
+nlriOf (accepts r) = ruleOf (storedRule (r .pieces) (head (r .family) 0 (r .distinguisher)))
+nlriOf (declines f) = ruleOf (storedRule [] (head 0 0 Absent))
 
 -- "at most 13 components", none of them an unused place
 unfoldable pub writtenNlri : FlowSpecNlri → List ℕ → List ℕ → ℕ → Answer (List ℕ)

@@ -8,6 +8,7 @@ use lib.Dec.{ltb, leb}
 use Rattle.ground.specs.Answers.{Answer, accepts, refuses, declines}
 use Rattle.ground.specs.Picks.{pick}
 use Rattle.refusals.specs.Refusals.{refusal}
+use Rattle.rules.specs.declared.Distinguisher.the-variants.{Absent}
 use Rattle.rules.specs.declared.Span.{Span}
 use Rattle.rules.specs.declared.FlowSpecComponent.{FlowSpecComponent}
 use Rattle.rules.specs.declared.FlowSpecComponent.the-variants.{Nothing, DestinationPrefix, SourcePrefix, IpProtocol, Port, DestinationPort, SourcePort, IcmpType, IcmpCode, TcpFlags, PacketLength, Dscp, Fragment, FlowLabel}
@@ -63,10 +64,10 @@ abbrev pub slotsOf : List Piece → List Slot
 slotsOf ps = map slotFor ps ++ replicate (13 - length ps) (slotOf Nothing)
 
 abbrev pub ruleOf : StoredRule → FlowSpecNlri
-ruleOf s = record { slots = slotsOf (s .pieces); count = length (s .pieces); family = s .head .family; first = s .head .first }
+ruleOf s = record { slots = slotsOf (s .pieces); count = length (s .pieces); family = s .head .family; first = s .head .first; distinguisher = s .head .distinguisher }
 
 abbrev pub storedOf : FlowSpecNlri → StoredRule
-storedOf r = storedRule (piecesIn (r .count) (r .slots)) (head (r .family) (r .first))
+storedOf r = storedRule (piecesIn (r .count) (r .slots)) (head (r .family) (r .first) (r .distinguisher))
 
 -- ---- reading a place
 
@@ -80,7 +81,7 @@ toldRead r = toldAnswer (r .answer) (storedOf (r .rule))
 
 abbrev pub ruleIn : Answer StoredRule → FlowSpecNlri
 ruleIn (accepts s) = ruleOf s
-ruleIn (declines f) = ruleOf (storedRule [] (head 0 0))
+ruleIn (declines f) = ruleOf (storedRule [] (head 0 0 Absent))
 
 -- ---- storing to a place
 

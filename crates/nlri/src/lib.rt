@@ -25,6 +25,7 @@ use reading::ReadInto;
 use refusals::Fault;
 use refusals::FlowSpecError;
 use refusals::Place;
+use rules::Distinguisher;
 use rules::FlowSpecComponent;
 use rules::FlowSpecNlri;
 use rules::NetworkPrefix;
@@ -154,7 +155,7 @@ fn slots_at(words: &[u64], base: usize, count: usize) -> [Slot; 13]
 }
 
 fn no_rule() -> RuleRead
-    ensures { λ r. ⌜ r ≡ record { answer = RuleAnswer.Refused (record { error = FlowSpecError.BadRecord; place = Place.Nowhere }); rule = ruleOf (storedRule [] (head 0 0)) } ⌝ }
+    ensures { λ r. ⌜ r ≡ record { answer = RuleAnswer.Refused (record { error = FlowSpecError.BadRecord; place = Place.Nowhere }); rule = ruleOf (storedRule [] (head 0 0 Distinguisher.Absent)) } ⌝ }
 {
     let slots = [Slot {
         component: FlowSpecComponent::Nothing,
@@ -169,6 +170,7 @@ fn no_rule() -> RuleRead
             count: 0,
             family: 0,
             first: 0,
+            distinguisher: Distinguisher::Absent,
         },
     }
 }
@@ -194,6 +196,7 @@ pub fn rule_at(words: &[u64], place: usize) -> RuleRead
             count: count,
             family: stored::family_at(words, base) as u8,
             first: stored::first_at(words, base),
+            distinguisher: stored::distinguisher_at(words, base),
         },
     }
 }
@@ -234,6 +237,7 @@ pub fn put_rule(words: &mut [u64], place: usize, rule: FlowSpecNlri) -> Stored
 {
     let slots = rule.slots;
     let held = rule.count;
+    let distinguisher = rule.distinguisher;
     if 13 < held {
         return Stored::Refused(Fault {
             error: FlowSpecError::BadRecord,
@@ -255,6 +259,7 @@ pub fn put_rule(words: &mut [u64], place: usize, rule: FlowSpecNlri) -> Stored
     let base = 64 * place;
     put_slots(words, base, slots, held);
     stored::put_tail(words, base, held, rule.family, rule.first);
+    stored::put_distinguisher(words, base, distinguisher);
     Stored::Done
 }
 
@@ -266,13 +271,13 @@ pub struct Parsed {
 
 // The plain reading with the rule by value.
 pub fn parse_flowspec_nlri(input: &[u8], values: &mut [u64], octets: &mut [u8]) -> Parsed
-    ensures answer { λ r. ⌜ toldInto (r .answer) ≡ takenOf (readInto Reading.Plain (now (input .entry)) 64 (length (now (values .entry))) (length (now (octets .entry)))) ⌝ }
-    ensures rule { λ r. ⌜ r .rule ≡ nlriOf (readInto Reading.Plain (now (input .entry)) 64 (length (now (values .entry))) (length (now (octets .entry)))) ⌝ }
-    ensures values { λ r. ⌜ now (values .exit) ≡ sets (now (values .entry)) 0 (map numberOf (operatorsOf (readInto Reading.Plain (now (input .entry)) 64 (length (now (values .entry))) (length (now (octets .entry)))))) ⌝ }
-    ensures octets { λ r. ⌜ now (octets .exit) ≡ sets (now (octets .entry)) 0 (map octetOf (operatorsOf (readInto Reading.Plain (now (input .entry)) 64 (length (now (values .entry))) (length (now (octets .entry)))))) ⌝ }
+    ensures answer { λ r. ⌜ toldInto (r .answer) ≡ takenOf (readInto Reading.Plain false (now (input .entry)) 64 (length (now (values .entry))) (length (now (octets .entry)))) ⌝ }
+    ensures rule { λ r. ⌜ r .rule ≡ nlriOf (readInto Reading.Plain false (now (input .entry)) 64 (length (now (values .entry))) (length (now (octets .entry)))) ⌝ }
+    ensures values { λ r. ⌜ now (values .exit) ≡ sets (now (values .entry)) 0 (map numberOf (operatorsOf (readInto Reading.Plain false (now (input .entry)) 64 (length (now (values .entry))) (length (now (octets .entry)))))) ⌝ }
+    ensures octets { λ r. ⌜ now (octets .exit) ≡ sets (now (octets .entry)) 0 (map octetOf (operatorsOf (readInto Reading.Plain false (now (input .entry)) 64 (length (now (values .entry))) (length (now (octets .entry)))))) ⌝ }
 {
     let mut words = [0u64; 64];
-    let answer = reading::read_into(Reading::Plain, input, &mut words, values, octets);
+    let answer = reading::read_into(Reading::Plain, 0, input, &mut words, values, octets);
     let read = rule_at(&words, 0);
     let rule = read.rule;
     Parsed {

@@ -3,7 +3,7 @@
 -- reading accepts, it accepts with all four codes for every type too, and what it refuses by another number it refuses alike
 -- (`accepted-before`, `refused-before`). For that `readBy` is the reading with the table of widths as an argument: by the table of the readings it is
 -- the reading (`by-own-table`), and with all four codes for every type no width is looked at (`all-codes`).
-use Prim.Native.Nat.{ℕ, zero, suc, _+_, _≤_}
+use Prim.Native.Nat.{ℕ, zero, suc, _+_, _-_, _≤_}
 use mathlib.Core.Path.{_≡_, refl, sym, _∙_, ap, subst}
 use mathlib.Core.Bool.{Bool, true, false}
 use mathlib.Core.List.{List, [], _∷_}
@@ -20,34 +20,34 @@ use Rattle.octets.specs.Widths.{codeIn}
 use Rattle.octets.specs.Lengths.{lengthAt}
 use Rattle.choices.specs.declared.Reading.{Reading}
 use Rattle.choices.specs.declared.Reading.the-variants.{Plain}
-use Rattle.choices.specs.Choices.{boundOf, lastType, codesIn, familyOf, standardOf}
+use Rattle.choices.specs.Choices.{boundOf, frontOf, lastType, codesIn, familyOf, standardOf}
 use Rattle.choices.proofs.WidthTable.{codes-most}
 use Rattle.operators.specs.Ops.{Op}
 use Rattle.lists.specs.declared.Tally.{Tally}
 use Rattle.lists.specs.Lists.{tally, plus, afterOp, lacksOctet, valueAt, operatorAt, turn, listFrom, listAt, opsAt, recordedOps}
 use Rattle.prefixes.specs.Prefixes.{prefixAt}
 use Rattle.walk.specs.Walks.{FoundAt, prefixFound, listFound, typedAt, componentAt, Body, body, joined, turn as turnWalk, walkFrom, walkAt}
-use Rattle.reading.specs.Readings.{ReadRule, ruled, part, statedAt, afterLength, tooLong, readAt, roomed, readInto, standardInto}
+use Rattle.reading.specs.Readings.{ReadRule, ruled, part, frontAt, statedAt, afterLength, tooLong, readAt, roomed, readInto, standardInto}
 use Rattle.reading.proofs.Laws.{readMeets, read-meets}
 use Rattle.walk.proofs.Refusals.{Widened}
 
 -- ---- which reading gives 6, and where
 
 -- "InvalidValueLength (standard only)"
-no-six : readMeets Plain 6 ≡ true → ⊥
-no-six e = let z : _≡_ {A = ℕ} 0 1 = cc in omega arith
+no-six : (rd : Bool) → readMeets Plain rd 6 ≡ true → ⊥
+no-six rd e = let z : _≡_ {A = ℕ} 0 1 = cc in omega arith
 
-pub plain-never-six : (s : List ℕ) (w v o : ℕ) (f : Refused) → readInto Plain s w v o ≡ declines f → f .number ≡ 6 → ⊥
-plain-never-six s w v o f e n = no-six (rw n at (read-meets Plain s w v o e .number))
+pub plain-never-six : (rd : Bool) (s : List ℕ) (w v o : ℕ) (f : Refused) → readInto Plain rd s w v o ≡ declines f → f .number ≡ 6 → ⊥
+plain-never-six rd s w v o f e n = no-six rd (rw n at (read-meets Plain rd s w v o e .number))
 
 -- a reading gives 6 at an operator octet in a list of the types 9, 11 and 12 alone, and carries that octet's code
-pub six-by-type : (r : Reading) (s : List ℕ) (w v o : ℕ) (f : Refused) → readInto r s w v o ≡ declines f → f .number ≡ 6 → Widened r s f
-six-by-type r s w v o f e n = read-meets r s w v o e .six n
+pub six-by-type : (r : Reading) (rd : Bool) (s : List ℕ) (w v o : ℕ) (f : Refused) → readInto r rd s w v o ≡ declines f → f .number ≡ 6 → Widened r s f
+six-by-type r rd s w v o f e n = read-meets r rd s w v o e .six n
 
-pub standard-six-by-type : (family : ℕ) (s : List ℕ) (w v o : ℕ) (f : Refused) → standardInto family s w v o ≡ declines f → f .number ≡ 6
+pub standard-six-by-type : (family : ℕ) (rd : Bool) (s : List ℕ) (w v o : ℕ) (f : Refused) → standardInto family rd s w v o ≡ declines f → f .number ≡ 6
     → ((r : Reading) → accepts r ≡ standardOf family → Widened r s f)
 unfolding standardInto
-standard-six-by-type family s w v o f e n r i = six-by-type r s w v o f (rw (← i) at e) n
+standard-six-by-type family rd s w v o f e n r i = six-by-type r rd s w v o f (rw (← i) at e) n
 
 -- ---- the reading by a table, which gives a bound on the codes for each type
 
@@ -75,18 +75,20 @@ walkFromBy codes zero r s stop at previous start = refusesAt 1 [] (length s)
 walkFromBy codes (suc k) r s stop at previous start =
     pick (leb stop at) (accepts (body [] [])) (turnWalk (getD s at 0) start (componentBy codes r s at previous start) (walkFromBy codes k r s stop))
 
-abbrev pub statedBy : (ℕ → ℕ) → Reading → List ℕ → ℕ → ℕ → Answer ReadRule
-statedBy codes r s start size =
+abbrev pub statedBy : (ℕ → ℕ) → Reading → Bool → List ℕ → ℕ → ℕ → Answer ReadRule
+statedBy codes r rd s start size =
     pick (ltb (length s) (start + size)) (refusesAt 1 [] (length s))
-    (ruled (familyOf r) (start + size) (answerBy start (walkFromBy codes 14 r (part s start (boundOf r (length s) (start + size))) size 0 0 0)))
+    (pick (ltb size (frontOf r rd)) (refusesAt 19 [] (start + size))
+    (ruled (familyOf r) (frontAt (frontOf r rd) s start) (start + size)
+    (answerBy (start + frontOf r rd) (walkFromBy codes 14 r (part s (start + frontOf r rd) (boundOf r (length s) (start + size))) (size - frontOf r rd) 0 0 0))))
 
-abbrev pub afterLengthBy : (ℕ → ℕ) → Reading → List ℕ → Answer Length → Answer ReadRule
-afterLengthBy codes r s (accepts l) = statedBy codes r s (l .next .at) (l .size)
-afterLengthBy codes r s (declines f) = declines f
+abbrev pub afterLengthBy : (ℕ → ℕ) → Reading → Bool → List ℕ → Answer Length → Answer ReadRule
+afterLengthBy codes r rd s (accepts l) = statedBy codes r rd s (l .next .at) (l .size)
+afterLengthBy codes r rd s (declines f) = declines f
 
-unfoldable pub readBy : (ℕ → ℕ) → Reading → List ℕ → ℕ → ℕ → ℕ → Answer ReadRule
-readBy codes r s words values octets =
-    roomed (pick (tooLong r (length s)) (refuses 8 (length s ∷ [])) (afterLengthBy codes r s (lengthAt s 0))) words values octets
+unfoldable pub readBy : (ℕ → ℕ) → Reading → Bool → List ℕ → ℕ → ℕ → ℕ → Answer ReadRule
+readBy codes r rd s words values octets =
+    roomed (pick (tooLong r (length s)) (refuses 8 (length s ∷ [])) (afterLengthBy codes r rd s (lengthAt s 0))) words values octets
 
 -- ---- two answers of which the first is the second, or refuses by 6
 
@@ -152,21 +154,23 @@ module _ (c d : ℕ → ℕ) (wider : (t : ℕ) → c t ≤ d t) (r : Reading) w
   within-walk (suc k) s stop at previous start =
       within-pick (leb stop at) (accepts (body [] [])) (within-found (getD s at 0) start (within-component s at previous start) (within-walk k s stop))
 
-  within-after : (s : List ℕ) (a : Answer Length) → Within (afterLengthBy c r s a) (afterLengthBy d r s a)
-  within-after s (accepts l) =
+  within-after : (rd : Bool) (s : List ℕ) (a : Answer Length) → Within (afterLengthBy c r rd s a) (afterLengthBy d r rd s a)
+  within-after rd s (accepts l) =
       let start = l .next .at in
       let end = start + l .size in
+      let front = frontOf r rd in
       within-pick (ltb (length s) end) (refusesAt 1 [] (length s))
-      (within-by (λ (a : Answer Body). ruled (familyOf r) end (answerBy start a)) (λ f. movedBy start f) (λ f. refl) (λ f. refl)
-      (within-walk 14 (part s start (boundOf r (length s) end)) (l .size) 0 0 0))
-  within-after s (declines f) = same refl
+      (within-pick (ltb (l .size) front) (refusesAt 19 [] end)
+      (within-by (λ (a : Answer Body). ruled (familyOf r) (frontAt front s start) end (answerBy (start + front) a)) (λ f. movedBy (start + front) f) (λ f. refl) (λ f. refl)
+      (within-walk 14 (part s (start + front) (boundOf r (length s) end)) (l .size - front) 0 0 0)))
+  within-after rd s (declines f) = same refl
 
   -- a reading by one table and by a wider one
-  pub within-read : (s : List ℕ) (w v o : ℕ) → Within (readBy c r s w v o) (readBy d r s w v o)
+  pub within-read : (rd : Bool) (s : List ℕ) (w v o : ℕ) → Within (readBy c r rd s w v o) (readBy d r rd s w v o)
   unfolding readBy
-  within-read s w v o =
+  within-read rd s w v o =
       within-by (λ (a : Answer ReadRule). roomed a w v o) (λ f. f) (λ f. refl) (λ f. refl)
-      (within-pick (tooLong r (length s)) (refuses 8 (length s ∷ [])) (within-after s (lengthAt s 0)))
+      (within-pick (tooLong r (length s)) (refuses 8 (length s ∷ [])) (within-after rd s (lengthAt s 0)))
 
 -- ---- by the table of the readings it is the reading
 
@@ -200,19 +204,21 @@ module _ (r : Reading) where
       ∙ ap (pick (leb stop at) (accepts (body [] [])))
       (own-found (getD s at 0) start (componentAt r s at previous start) (walkFromBy (codesIn r) k r s stop) (walkFrom k r s stop) (own-walk k s stop))
 
-  own-after : (s : List ℕ) (a : Answer Length) → afterLengthBy (codesIn r) r s a ≡ afterLength r s a
+  own-after : (rd : Bool) (s : List ℕ) (a : Answer Length) → afterLengthBy (codesIn r) r rd s a ≡ afterLength r rd s a
   unfolding statedAt walkAt
-  own-after s (accepts l) =
+  own-after rd s (accepts l) =
       let start = l .next .at in
       let end = start + l .size in
-      ap (λ (a : Answer Body). pick (ltb (length s) end) (refusesAt 1 [] (length s)) (ruled (familyOf r) end (answerBy start a)))
-      (own-walk 14 (part s start (boundOf r (length s) end)) (l .size) 0 0 0)
-  own-after s (declines f) = refl
+      let front = frontOf r rd in
+      ap (λ (a : Answer Body). pick (ltb (length s) end) (refusesAt 1 [] (length s)) (pick (ltb (l .size) front) (refusesAt 19 [] end)
+      (ruled (familyOf r) (frontAt front s start) end (answerBy (start + front) a))))
+      (own-walk 14 (part s (start + front) (boundOf r (length s) end)) (l .size - front) 0 0 0)
+  own-after rd s (declines f) = refl
 
-  pub by-own-table : (s : List ℕ) (w v o : ℕ) → readBy (codesIn r) r s w v o ≡ readInto r s w v o
+  pub by-own-table : (rd : Bool) (s : List ℕ) (w v o : ℕ) → readBy (codesIn r) r rd s w v o ≡ readInto r rd s w v o
   unfolding readBy readInto readAt
-  by-own-table s w v o =
-      ap (λ (a : Answer ReadRule). roomed (pick (tooLong r (length s)) (refuses 8 (length s ∷ [])) a) w v o) (own-after s (lengthAt s 0))
+  by-own-table rd s w v o =
+      ap (λ (a : Answer ReadRule). roomed (pick (tooLong r (length s)) (refuses 8 (length s ∷ [])) a) w v o) (own-after rd s (lengthAt s 0))
 
 -- ---- and with all four codes for every type no width is looked at: so every reading was before
 
@@ -222,22 +228,22 @@ all t = 4
 pub all-codes : (r : Reading) (t : ℕ) (s : List ℕ) (at : ℕ) → operatorBy all r t s at ≡ pick (lacksOctet s at) (refusesAt 1 [] (length s)) (valueAt r t s at)
 all-codes r t s at = rw (lt-leb 4 (codeIn (getD s at 0)) (omega arith))
 
-module _ (r : Reading) (s : List ℕ) (w v o : ℕ) where
-  pub restricts : Within (readInto r s w v o) (readBy all r s w v o)
-  restricts = subst (λ (a : Answer ReadRule). Within a (readBy all r s w v o)) (by-own-table r s w v o) (within-read (codesIn r) all (codes-most r) r s w v o)
+module _ (r : Reading) (rd : Bool) (s : List ℕ) (w v o : ℕ) where
+  pub restricts : Within (readInto r rd s w v o) (readBy all r rd s w v o)
+  restricts = subst (λ (a : Answer ReadRule). Within a (readBy all r rd s w v o)) (by-own-table r rd s w v o) (within-read (codesIn r) all (codes-most r) r rd s w v o)
 
   -- what is accepted was accepted before, as the same rule
-  pub accepted-before : {rule : ReadRule} → readInto r s w v o ≡ accepts rule → readBy all r s w v o ≡ accepts rule
+  pub accepted-before : {rule : ReadRule} → readInto r rd s w v o ≡ accepts rule → readBy all r rd s w v o ≡ accepts rule
   accepted-before {rule} e = by-within restricts
     where
-      by-within : Within (readInto r s w v o) (readBy all r s w v o) → readBy all r s w v o ≡ accepts rule
+      by-within : Within (readInto r rd s w v o) (readBy all r rd s w v o) → readBy all r rd s w v o ≡ accepts rule
       by-within (same i) = sym i ∙ e
       by-within (six f i n) = never (sym i ∙ e)
 
   -- and what is refused by another number was refused so
-  pub refused-before : {f : Refused} → readInto r s w v o ≡ declines f → (f .number ≡ 6 → ⊥) → readBy all r s w v o ≡ declines f
+  pub refused-before : {f : Refused} → readInto r rd s w v o ≡ declines f → (f .number ≡ 6 → ⊥) → readBy all r rd s w v o ≡ declines f
   refused-before {f} e h = by-within restricts
     where
-      by-within : Within (readInto r s w v o) (readBy all r s w v o) → readBy all r s w v o ≡ declines f
+      by-within : Within (readInto r rd s w v o) (readBy all r rd s w v o) → readBy all r rd s w v o ≡ declines f
       by-within (same i) = sym i ∙ e
       by-within (six g i n) = absurd (h (ap (λ (x : Refused). x .number) (same-refusal (sym e ∙ i)) ∙ n))

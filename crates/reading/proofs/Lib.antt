@@ -1,5 +1,6 @@
 pub mod Components
 pub mod Rooms
+pub mod Stated
 pub mod Stores
 pub mod Ways
 pub mod Bodies
@@ -8,3 +9,4 @@ pub mod Once
 pub mod Laws
 pub mod Places
 pub mod FixedWidths
+pub mod Distinguishers

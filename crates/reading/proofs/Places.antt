@@ -3,7 +3,7 @@
 -- and including it, and for a bad IPv6 pair in the offset octet behind it, are refused alike.
 use Prim.Native.Nat.{ℕ, _+_, _-_, _≤_, _<_}
 use mathlib.Core.Path.{_≡_, refl, sym, _∙_, ap, subst}
-use mathlib.Core.Bool.{true, false}
+use mathlib.Core.Bool.{Bool, true, false}
 use mathlib.Core.List.{List, [], _∷_}
 use mathlib.Core.Logic.{_⊎_, inl, inr, ⊎-elim}
 use native.Mathlib.Omega.{arith}
@@ -20,12 +20,14 @@ use Rattle.octets.specs.Lengths.{lengthAt}
 use Rattle.octets.proofs.Places.{length-breaks, length-short, length-most, length-within, length-alike}
 use Rattle.choices.specs.declared.Reading.{Reading}
 use Rattle.choices.specs.declared.Reading.the-variants.{Plain, Ipv4, Ipv6}
-use Rattle.choices.specs.Choices.{boundOf, familyOf}
+use Rattle.choices.specs.Choices.{boundOf, frontOf, familyOf}
+use Rattle.rules.specs.declared.Distinguisher.{Distinguisher}
 use Rattle.prefixes.proofs.Accepted.{Octets}
 use Rattle.prefixes.proofs.Places.{behind}
 use Rattle.walk.specs.Walks.{Body, walkAt}
 use Rattle.walk.proofs.Places.{walk-breaks}
-use Rattle.reading.specs.Readings.{ReadRule, ruled, part, statedAt, afterLength, tooLong, readAt, shorter, roomed, readInto}
+use Rattle.reading.specs.Readings.{ReadRule, ruled, part, frontAt, statedAt, afterLength, tooLong, readAt, shorter, roomed, readInto}
+use Rattle.reading.proofs.Stated.{stated-past, stated-short, stated-components}
 use Rattle.reading.proofs.Ways.{bound-in}
 
 -- the end that bounds a read: the input's for a missing length octet and for a stated end past the input, else what the walk is bounded by
@@ -40,7 +42,7 @@ end-within : (r : Reading) (n : ℕ) (a : Answer Length) → endBy r n a ≤ n
 end-within r n (accepts l) =
     by-test (ltb n (l .next .at + l .size))
     (λ t. rw t (omega arith))
-    (λ t. rw t (bound-in r n (l .next .at) (l .size) (ltb-false n (l .next .at + l .size) t) .1))
+    (λ t. rw t (bound-in r n 0 (l .next .at + l .size) (omega arith) (ltb-false n (l .next .at + l .size) t) .1))
 end-within r n (declines f) = omega arith
 
 bound-most : (r : Reading) (n end : ℕ) → tooLong r n ≡ false → end ≤ 4097 → boundOf r n end ≤ 4097
@@ -56,17 +58,6 @@ end-most r s t o (accepts l) e =
     (λ k. rw k (bound-most r (length s) (l .next .at + l .size) t m))
 end-most r s t o (declines f) e = let m = length-short s e in omega arith
 
--- two ways that it goes after a length
-module _ (r : Reading) (s : List ℕ) (start size : ℕ) where
-  stated-past : length s < start + size → statedAt r s start size ≡ refusesAt 1 [] (length s)
-  unfolding statedAt
-  stated-past h = rw (lt-ltb (length s) (start + size) h)
-
-  stated-in : start + size ≤ length s
-      → statedAt r s start size ≡ ruled (familyOf r) (start + size) (answerBy start (walkAt r (part s start (boundOf r (length s) (start + size))) size))
-  unfolding statedAt
-  stated-in h = rw (le-ltb (length s) (start + size) h)
-
 not-nowhere : {A : Type 0} {p : ℕ} → nowhere ≡ at-octet p → A
 not-nowhere e = let z : _≡_ {A = ℕ} 0 1 = cc in absurd (omega arith)
 
@@ -75,24 +66,38 @@ place-in e = cc
 
 -- ---- after a length that is there
 
-ruled-refused : (family used start : ℕ) (a : Answer Body) {f : Refused} {A : Type 0} → ruled family used (answerBy start a) ≡ declines f
+ruled-refused : (family : ℕ) (d : Distinguisher) (used start : ℕ) (a : Answer Body) {f : Refused} {A : Type 0} → ruled family d used (answerBy start a) ≡ declines f
     → ((g : Refused) → a ≡ declines g → movedBy start g ≡ f → A) → A
-ruled-refused family used start (accepts b) e k = never (sym e)
-ruled-refused family used start (declines g) e k = k g refl (same-refusal e)
+ruled-refused family d used start (accepts b) e k = never (sym e)
+ruled-refused family d used start (declines g) e k = k g refl (same-refusal e)
 
-module _ (r : Reading) (s : List ℕ) (l : Length) (first : lengthAt s 0 ≡ accepts l) where
+-- what is too short for a distinguisher is read to the stated end
+short-bound : (r : Reading) (rd : Bool) (n : ℕ) {size end : ℕ} → size < frontOf r rd → boundOf r n end ≡ end
+short-bound Plain rd n h = absurd (omega arith)
+short-bound Ipv4 rd n h = refl
+short-bound Ipv6 rd n h = refl
+
+-- only an octet is missing by 1
+not-missing : {A : Type 0} → _≡_ {A = ℕ} 19 1 → A
+not-missing e = absurd (omega arith)
+
+module _ (r : Reading) (rd : Bool) (s : List ℕ) (l : Length) (first : lengthAt s 0 ≡ accepts l) where
   abbrev start : ℕ
   start = l .next .at
 
   abbrev end : ℕ
   end = l .next .at + l .size
 
+  -- where the walk starts
+  abbrev from : ℕ
+  from = l .next .at + frontOf r rd
+
   abbrev Broken : Refused → Type 0
-  Broken = Breaks (behind r) (λ (u : List ℕ). afterLength r u (lengthAt u 0)) s 0 (endOf r s)
+  Broken = Breaks (behind r) (λ (u : List ℕ). afterLength r rd u (lengthAt u 0)) s 0 (endOf r s)
 
   -- inputs that agree up to the body state the same
-  after-there : (u : List ℕ) → Alike start s u → afterLength r u (lengthAt u 0) ≡ statedAt r u start (l .size)
-  after-there u a = ap (afterLength r u) (length-alike s first u a)
+  after-there : (u : List ℕ) → Alike start s u → afterLength r rd u (lengthAt u 0) ≡ statedAt r rd u start (l .size)
+  after-there u a = ap (afterLength r rd u) (length-alike s first u a)
 
   past-end : length s < end → Broken (refused 1 [] (at-octet (length s)))
   past-end h =
@@ -103,43 +108,62 @@ module _ (r : Reading) (s : List ℕ) (l : Length) (first : lengthAt s 0 ≡ acc
         within = rw (first, lt-ltb (length s) end h) (omega arith);
         missing = λ e. rw (first, lt-ltb (length s) end h);
         same = λ u a.
-            after-there u (alike-less (omega (arith, length-within s first)) a) ∙ stated-past r u start (l .size) (omega (arith, a .long))
+            after-there u (alike-less (omega (arith, length-within s first)) a) ∙ stated-past r rd u start (l .size) (omega (arith, a .long))
             ∙ ap (refusesAt 1 []) (a .long);
       }
 
-  in-walk : end ≤ length s → (g : Refused) → walkAt r (part s start (boundOf r (length s) end)) (l .size) ≡ declines g → Broken (movedBy start g)
-  in-walk h g e =
-      let bound = boundOf r (length s) end in
-      let k = bound-in r (length s) start (l .size) h in
-      let b = walk-breaks r (part s start bound) (l .size) e in
-      let n : length (part s start bound) ≡ bound - start = simp (length-take, length-drop) (omega arith) in
+  too-short : end ≤ length s → l .size < frontOf r rd → Broken (refused 19 [] (at-octet end))
+  too-short h k =
       record {
-        place = start + b .place;
-        is = ap (placeBy start) (b .is);
+        place = end;
+        is = refl;
+        from = omega arith;
+        within = rw (first, le-ltb (length s) end h, short-bound r rd (length s) {end = end} k) (omega arith);
+        missing = λ e. not-missing e;
+        same = λ u a.
+            after-there u (alike-less (omega arith) a) ∙ stated-short r rd u start (l .size) (omega (arith, a .long)) k;
+      }
+
+  in-walk : end ≤ length s → frontOf r rd ≤ l .size → (g : Refused) → walkAt r (part s from (boundOf r (length s) end)) (l .size - frontOf r rd) ≡ declines g
+      → Broken (movedBy from g)
+  in-walk h t g e =
+      let bound = boundOf r (length s) end in
+      let size = l .size - frontOf r rd in
+      let k = bound-in r (length s) from end (omega arith) h in
+      let b = walk-breaks r (part s from bound) size e in
+      let n : length (part s from bound) ≡ bound - from = simp (length-take, length-drop) (omega arith) in
+      record {
+        place = from + b .place;
+        is = ap (placeBy from) (b .is);
         from = omega arith;
         within = rw (first, le-ltb (length s) end h) (omega (arith, b .within));
         missing = λ i. rw (first, le-ltb (length s) end h) (omega (arith, b .missing i));
         same = λ u a.
-            let c : Alike (start + (b .place + 1 + behind r (g .number))) s u = alike-less (omega arith) a in
-            let d = b .same (part u start bound) (alike-part start (bound - start) c) in
-            after-there u (alike-less (omega arith) a) ∙ stated-in r u start (l .size) (omega (arith, a .long))
-            ∙ ap (λ (x : ℕ). ruled (familyOf r) end (answerBy start (walkAt r (part u start (boundOf r x end)) (l .size)))) (a .long)
-            ∙ ap (λ (x : Answer Body). ruled (familyOf r) end (answerBy start x)) d;
+            let c : Alike (from + (b .place + 1 + behind r (g .number))) s u = alike-less (omega arith) a in
+            let d = b .same (part u from bound) (alike-part from (bound - from) c) in
+            let i = frontAt (frontOf r rd) u start in
+            after-there u (alike-less (omega arith) a) ∙ stated-components r rd u start (l .size) (omega (arith, a .long)) t
+            ∙ ap (λ (x : ℕ). ruled (familyOf r) i end (answerBy from (walkAt r (part u from (boundOf r x end)) size))) (a .long)
+            ∙ ap (λ (x : Answer Body). ruled (familyOf r) i end (answerBy from x)) d;
       }
 
 -- ---- the input
 
-by-length : (r : Reading) (s : List ℕ) {f : Refused} (a : Answer Length) → lengthAt s 0 ≡ a → afterLength r s a ≡ declines f
-    → Breaks (behind r) (λ (u : List ℕ). afterLength r u (lengthAt u 0)) s 0 (endOf r s) f
-by-length r s {f} (accepts l) i e =
-    let start = l .next .at in
-    let end = l .next .at + l .size in
+by-length : (r : Reading) (rd : Bool) (s : List ℕ) {f : Refused} (a : Answer Length) → lengthAt s 0 ≡ a → afterLength r rd s a ≡ declines f
+    → Breaks (behind r) (λ (u : List ℕ). afterLength r rd u (lengthAt u 0)) s 0 (endOf r s) f
+by-length r rd s {f} (accepts l) i e =
+    let size = l .size in
+    let front = frontOf r rd in
     ⊎-elim
-    (λ h. subst (Breaks (behind r) (λ (u : List ℕ). afterLength r u (lengthAt u 0)) s 0 (endOf r s)) (same-refusal (sym (stated-past r s start (l .size) h) ∙ e)) (past-end r s l i h))
-    (λ h. ruled-refused (familyOf r) end start (walkAt r (part s start (boundOf r (length s) end)) (l .size)) (sym (stated-in r s start (l .size) h) ∙ e)
-    (λ g w m. subst (Breaks (behind r) (λ (u : List ℕ). afterLength r u (lengthAt u 0)) s 0 (endOf r s)) m (in-walk r s l i h g w)))
-    (lt-or-le (length s) end)
-by-length r s (declines g) i e =
+    (λ h. subst (Broken r rd s l i) (same-refusal (sym (stated-past r rd s (start r rd s l i) size h) ∙ e)) (past-end r rd s l i h))
+    (λ h. ⊎-elim
+    (λ k. subst (Broken r rd s l i) (same-refusal (sym (stated-short r rd s (start r rd s l i) size h k) ∙ e)) (too-short r rd s l i h k))
+    (λ k. ruled-refused (familyOf r) (frontAt front s (start r rd s l i)) (end r rd s l i) (from r rd s l i)
+    (walkAt r (part s (from r rd s l i) (boundOf r (length s) (end r rd s l i))) (size - front)) (sym (stated-components r rd s (start r rd s l i) size h k) ∙ e)
+    (λ g w m. subst (Broken r rd s l i) m (in-walk r rd s l i h k g w)))
+    (lt-or-le size front))
+    (lt-or-le (length s) (end r rd s l i))
+by-length r rd s (declines g) i e =
     let b = length-breaks s (behind r) (i ∙ ap declines (same-refusal e)) in
     record {
       place = b .place;
@@ -147,31 +171,31 @@ by-length r s (declines g) i e =
       from = b .from;
       within = subst (λ (x : Answer Length). b .place ≤ endBy r (length s) x) (sym i) (b .within);
       missing = λ k. b .missing k ∙ sym (ap (endBy r (length s)) i);
-      same = λ u a. ap (afterLength r u) (b .same u a);
+      same = λ u a. ap (afterLength r rd u) (b .same u a);
     }
 
-read-by : (r : Reading) (s : List ℕ) → tooLong r (length s) ≡ false → readAt r s ≡ afterLength r s (lengthAt s 0)
+read-by : (r : Reading) (rd : Bool) (s : List ℕ) → tooLong r (length s) ≡ false → readAt r rd s ≡ afterLength r rd s (lengthAt s 0)
 unfolding readAt
-read-by r s t = rw t
+read-by r rd s t = rw t
 
-read-long : (r : Reading) (s : List ℕ) → tooLong r (length s) ≡ true → readAt r s ≡ refuses 8 (length s ∷ [])
+read-long : (r : Reading) (rd : Bool) (s : List ℕ) → tooLong r (length s) ≡ true → readAt r rd s ≡ refuses 8 (length s ∷ [])
 unfolding readAt
-read-long r s t = rw t
+read-long r rd s t = rw t
 
-module _ (r : Reading) (s : List ℕ) {f : Refused} (e : readAt r s ≡ declines f) where
-  either : (f ≡ refused 8 (length s ∷ []) nowhere) ⊎ Breaks (behind r) (readAt r) s 0 (endOf r s) f
+module _ (r : Reading) (rd : Bool) (s : List ℕ) {f : Refused} (e : readAt r rd s ≡ declines f) where
+  either : (f ≡ refused 8 (length s ∷ []) nowhere) ⊎ Breaks (behind r) (readAt r rd) s 0 (endOf r s) f
   either =
       by-test (tooLong r (length s))
-      (λ t. inl (same-refusal (sym e ∙ read-long r s t)))
+      (λ t. inl (same-refusal (sym e ∙ read-long r rd s t)))
       (λ t.
-      inr (breaks-on (by-length r s (lengthAt s 0) refl (sym (read-by r s t) ∙ e)) (readAt r) 0 (omega arith) (λ u a q. read-by r u (ap (tooLong r) (a .long) ∙ t) ∙ q)))
+      inr (breaks-on (by-length r rd s (lengthAt s 0) refl (sym (read-by r rd s t) ∙ e)) (readAt r rd) 0 (omega arith) (λ u a q. read-by r rd u (ap (tooLong r) (a .long) ∙ t) ∙ q)))
 
   -- every refusal but 8 has a place
-  pub has-place : (f .number ≡ 8 → ⊥) → Breaks (behind r) (readAt r) s 0 (endOf r s) f
+  pub has-place : (f .number ≡ 8 → ⊥) → Breaks (behind r) (readAt r rd) s 0 (endOf r s) f
   has-place n = ⊎-elim (λ i. absurd (n (ap (λ (x : Refused). x .number) i))) (λ b. b) either
 
   module _ {p : ℕ} (h : f .place ≡ at-octet p) where
-    placed : Breaks (behind r) (readAt r) s 0 (endOf r s) f
+    placed : Breaks (behind r) (readAt r rd) s 0 (endOf r s) f
     placed = ⊎-elim (λ i. not-nowhere (sym (ap (λ (x : Refused). x .place) i) ∙ h)) (λ b. b) either
 
     is-place : placed .place ≡ p
@@ -188,7 +212,7 @@ module _ (r : Reading) (s : List ℕ) {f : Refused} (e : readAt r s ≡ declines
     pub place-most : Octets s → p ≤ 4097
     place-most o =
         by-test (tooLong r (length s))
-        (λ t. not-nowhere (ap (λ (x : Refused). x .place) (same-refusal (sym (read-long r s t) ∙ e)) ∙ h))
+        (λ t. not-nowhere (ap (λ (x : Refused). x .place) (same-refusal (sym (read-long r rd s t) ∙ e)) ∙ h))
         (λ t. omega (arith, within-bound, end-most r s t o (lengthAt s 0) refl))
 
     -- where an octet is missing, the place is the bound
@@ -197,7 +221,7 @@ module _ (r : Reading) (s : List ℕ) {f : Refused} (e : readAt r s ≡ declines
 
     -- inputs of one length that agree up to and including the place, and of a bad IPv6 pair in the offset octet behind it, get the same refusal
     -- there
-    pub same-there : (u : List ℕ) → length u ≡ length s → take (p + 1 + behind r (f .number)) u ≡ take (p + 1 + behind r (f .number)) s → readAt r u ≡ declines f
+    pub same-there : (u : List ℕ) → length u ≡ length s → take (p + 1 + behind r (f .number)) u ≡ take (p + 1 + behind r (f .number)) s → readAt r rd u ≡ declines f
     same-there u l i = placed .same u (rw is-place (take-alike (p + 1 + behind r (f .number)) s u l i))
 
 -- ---- with room lent: what has a place is refused whatever the room is
@@ -211,11 +235,11 @@ unroomed (accepts x) w v o e h =
     (λ k. never (sym (rw (t, k) at e))))
 unroomed (declines g) w v o e h = e
 
-module _ (r : Reading) (s : List ℕ) (w v o : ℕ) {f : Refused} {p : ℕ} (h : f .place ≡ at-octet p) where
-  pub any-room : readInto r s w v o ≡ declines f → readAt r s ≡ declines f
+module _ (r : Reading) (rd : Bool) (s : List ℕ) (w v o : ℕ) {f : Refused} {p : ℕ} (h : f .place ≡ at-octet p) where
+  pub any-room : readInto r rd s w v o ≡ declines f → readAt r rd s ≡ declines f
   unfolding readInto
-  any-room e = unroomed (readAt r s) w v o e h
+  any-room e = unroomed (readAt r rd s) w v o e h
 
-  pub in-any-room : readAt r s ≡ declines f → readInto r s w v o ≡ declines f
+  pub in-any-room : readAt r rd s ≡ declines f → readInto r rd s w v o ≡ declines f
   unfolding readInto
   in-any-room e = rw e

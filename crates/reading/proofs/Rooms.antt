@@ -2,7 +2,7 @@
 -- what the reading gives and that `store` may be called.
 use Prim.Native.Nat.{ℕ, _≤_, _<_}
 use mathlib.Core.Path.{_≡_, refl, sym, _∙_, ap}
-use mathlib.Core.Bool.{true}
+use mathlib.Core.Bool.{Bool, true}
 use mathlib.Core.List.{List, [], _∷_}
 use native.Mathlib.Omega.{arith}
 use borrow.Author.Tests.{lt-ltb, le-ltb, ltb-true, ltb-false, leb-true, leb-false, eq-eqb, ne-eqb}
@@ -90,36 +90,36 @@ untaken (accepts x) e = let t = taken-in e in (refl, (refl, t))
 untaken (declines f) e = never (sym e)
 
 -- what `store` asks of an input that was accepted
-module _ (r : Reading) (s : List ℕ) {u n : ℕ} (q : accepts (taken u n) ≡ takenOf (readAt r s)) where
-  pub tested : (isRead (readAt r s) ≡ true) × (u ≡ readOf r s .used)
-  tested = (untaken (readAt r s) q .0, untaken (readAt r s) q .1 .1 .0)
+module _ (r : Reading) (rd : Bool) (s : List ℕ) {u n : ℕ} (q : accepts (taken u n) ≡ takenOf (readAt r rd s)) where
+  pub tested : (isRead (readAt r rd s) ≡ true) × (u ≡ readOf r rd s .used)
+  tested = (untaken (readAt r rd s) q .0, untaken (readAt r rd s) q .1 .1 .0)
 
-  pub counted-in : length (readOf r s .operators) ≡ n
-  counted-in = sym (untaken (readAt r s) q .1 .1 .1)
+  pub counted-in : length (readOf r rd s .operators) ≡ n
+  counted-in = sym (untaken (readAt r rd s) q .1 .1 .1)
 
-module _ (r : Reading) (s : List ℕ) (words values octets : ℕ) where
-  by-read : {a : Answer ReadRule} → readAt r s ≡ a → readInto r s words values octets ≡ roomed a words values octets
+module _ (r : Reading) (rd : Bool) (s : List ℕ) (words values octets : ℕ) where
+  by-read : {a : Answer ReadRule} → readAt r rd s ≡ a → readInto r rd s words values octets ≡ roomed a words values octets
   unfolding readInto
   by-read e = ap (λ (x : Answer ReadRule). roomed x words values octets) e
 
   -- an input that is refused is refused with any room
-  pub into-refused : {f : Refused} → declines f ≡ takenOf (readAt r s) → readInto r s words values octets ≡ declines f
-  into-refused e = by-read (untaken-refused (readAt r s) e)
+  pub into-refused : {f : Refused} → declines f ≡ takenOf (readAt r rd s) → readInto r rd s words values octets ≡ declines f
+  into-refused e = by-read (untaken-refused (readAt r rd s) e)
 
   -- one that is accepted goes by what is lacking
-  module _ {u n : ℕ} (q : accepts (taken u n) ≡ takenOf (readAt r s)) {k : ℕ} (e : k ≡ lackingOf n words values octets) where
-    into-by : readInto r s words values octets ≡ pick (eqb k 0) (accepts (readOf r s)) (refuses 9 (k ∷ []))
-    into-by = rw (e, ← counted-in r s q) (by-read (untaken (readAt r s) q .1 .0) ∙ roomed-by (readOf r s) words values octets)
+  module _ {u n : ℕ} (q : accepts (taken u n) ≡ takenOf (readAt r rd s)) {k : ℕ} (e : k ≡ lackingOf n words values octets) where
+    into-by : readInto r rd s words values octets ≡ pick (eqb k 0) (accepts (readOf r rd s)) (refuses 9 (k ∷ []))
+    into-by = rw (e, ← counted-in r rd s q) (by-read (untaken (readAt r rd s) q .1 .0) ∙ roomed-by (readOf r rd s) words values octets)
 
-    pub into-lacking : (k ≡ 0 → ⊥) → readInto r s words values octets ≡ refuses 9 (k ∷ [])
+    pub into-lacking : (k ≡ 0 → ⊥) → readInto r rd s words values octets ≡ refuses 9 (k ∷ [])
     into-lacking z = into-by ∙ simp (ne-eqb k 0 z)
 
     module _ (z : k ≡ 0) where
-      pub into-roomed : readInto r s words values octets ≡ accepts (readOf r s)
+      pub into-roomed : readInto r rd s words values octets ≡ accepts (readOf r rd s)
       into-roomed = into-by ∙ simp (eq-eqb k 0 z)
 
-      pub room : (64 ≤ words) × Places 0 (length (readOf r s .operators)) values octets
+      pub room : (64 ≤ words) × Places 0 (length (readOf r rd s .operators)) values octets
       room =
           let m = enough n words values octets (sym e ∙ z) in
-          let i = counted-in r s q in
+          let i = counted-in r rd s q in
           (m .0, record { in-values = omega arith; in-octets = omega arith })

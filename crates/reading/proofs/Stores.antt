@@ -12,7 +12,7 @@ use Rattle.ground.proofs.Overlays.{sets-append}
 use Rattle.choices.specs.declared.Reading.{Reading}
 use Rattle.operators.specs.Ops.{Op, octetOf, numberOf}
 use Rattle.stored.specs.Pieces.{pieceWords}
-use Rattle.stored.specs.Stored.{head, allWords, tailWords, ruleWords}
+use Rattle.stored.specs.Stored.{Head, allWords, tailWords, ruleWords}
 use Rattle.stored.proofs.Words.{rule-whole}
 use Rattle.lists.specs.Runs.{Places}
 use Rattle.walk.specs.Walks.{FoundAt, componentAt, Body, body, joined, walkAt}
@@ -84,16 +84,20 @@ module _ {r : Reading} {s : List ℕ} {stop first : ℕ} {ws₀ vs₀ os₀ ws v
   few-of = omega (arith, h .few, h .known)
 
   -- nothing is left: what is stored, with the words that follow the components, is all
-  pub stored-end : stop ≤ at → (family : ℕ) {ws′ : List ℕ} → ws′ ≡ sets ws (0 + 4 * j) (tailWords j (head family first))
-      → (ws′ ≡ sets ws₀ 0 (ruleWords (bodyAt r s stop .pieces) (head family first)))
-      × ((vs ≡ sets vs₀ first (map numberOf (bodyAt r s stop .operators))) × (os ≡ sets os₀ first (map octetOf (bodyAt r s stop .operators))))
+  pub stored-end : stop ≤ at → (said : Head) {ws′ : List ℕ} → ws′ ≡ sets ws (0 + 4 * j) (tailWords j said)
+      → (ws′ ≡ sets ws₀ 0 (ruleWords (bodyAt r s stop .pieces) said))
+      × ((vs ≡ sets vs₀ first (map numberOf (bodyAt r s stop .operators)))
+      × ((os ≡ sets os₀ first (map octetOf (bodyAt r s stop .operators))) × (length (bodyAt r s stop .pieces) ≤ 13)))
   unfolding allWords
-  stored-end k family {ws′} e =
+  stored-end k said {ws′} e =
       let z = ap bodyIn (rest-end r s stop at (h .previous) start j few-of k) in
       let n = ap (λ (x : Body). length (x .pieces)) z in
       let w : ws ≡ sets ws₀ 0 (allWords (bodyAt r s stop .pieces)) = sym (h .words ∙ ap (λ (x : Body). sets ws (4 * j) (allWords (x .pieces))) z) in (
-        rule-whole ws₀ ws ws′ 0 j (head family first) (bodyAt r s stop .pieces) (omega (arith, h .total)) w e,
-        (sym (h .values ∙ ap (λ (x : Body). sets vs (first + start) (map numberOf (x .operators))) z), sym (h .octets ∙ ap (λ (x : Body). sets os (first + start) (map octetOf (x .operators))) z)),
+        rule-whole ws₀ ws ws′ 0 j said (bodyAt r s stop .pieces) (omega (arith, h .total)) w e,
+        (
+          sym (h .values ∙ ap (λ (x : Body). sets vs (first + start) (map numberOf (x .operators))) z),
+          (sym (h .octets ∙ ap (λ (x : Body). sets os (first + start) (map octetOf (x .operators))) z), omega (arith, h .total, few-of)),
+        ),
       )
 
   module _ (k : at < stop) where

@@ -9,6 +9,7 @@ use lib.Dec.{ltb}
 use Rattle.ground.specs.Picks.{pick}
 use Rattle.ground.specs.Answers.{Answer, accepts, declines}
 use Rattle.choices.specs.declared.Reading.{Reading}
+use Rattle.rules.specs.declared.Distinguisher.the-variants.{Absent}
 use Rattle.stored.specs.declared.Piece.the-variants.{NoRecord}
 use Rattle.octets.specs.Lengths.{lengthWidth}
 use Rattle.reading.specs.Readings.{ReadRule, readRule, readAt, shorter}
@@ -55,10 +56,10 @@ isRead (declines f) = false
 
 abbrev pub ruleIn : Answer ReadRule → ReadRule
 ruleIn (accepts r) = r
-ruleIn (declines f) = readRule (body [] []) 0 0
+ruleIn (declines f) = readRule (body [] []) 0 Absent 0
 
-abbrev pub readOf : Reading → List ℕ → ReadRule
-readOf reading s = ruleIn (readAt reading s)
+abbrev pub readOf : Reading → Bool → List ℕ → ReadRule
+readOf reading expected s = ruleIn (readAt reading expected s)
 
 -- where the body starts: after the length field, by its first octet
 abbrev pub bodyStart : ℕ → ℕ

@@ -13,8 +13,8 @@ ghost use Rattle.lists.specs.Runs.{Places};
 ghost use Rattle.stored.specs.Pieces.{pieceWords};
 ghost use Rattle.stored.specs.Stored.{head, ruleWords};
 ghost use Rattle.walk.specs.Walks.{walkAt};
-ghost use Rattle.reading.specs.Readings.{tooLong, statedAt, readAt, readInto, standardInto, toldInto, takenOf, wordsOf, operatorsOf};
-ghost use Rattle.choices.specs.Choices.{familyOf};
+ghost use Rattle.reading.specs.Readings.{tooLong, statedAt, readAt, readInto, standardInto, frontAt, toldInto, takenOf, wordsOf, operatorsOf};
+ghost use Rattle.choices.specs.Choices.{expects, frontOf, familyOf};
 ghost use Rattle.reading.specs.Parts.{isBody, Standing, foundHere, bodyAt, isRead, readOf, lackingOf};
 use choices::Reading;
 use choices::Standard;
@@ -22,7 +22,9 @@ use lists::Tally;
 use octets::Cursor;
 use refusals::Fault;
 use refusals::FlowSpecError;
+use refusals::OuterError;
 use refusals::Place;
+use rules::Distinguisher;
 use stored::Piece;
 use walk::Walked;
 
@@ -110,9 +112,10 @@ fn put_all(
     requires { ⌜ isBody (walkAt reading (now s) stop) ≡ true ⌝ }
     requires { ⌜ 64 ≤ length (now words) ⌝ }
     requires { ⌜ Places first (length (bodyAt reading (now s) stop .operators)) (length (now values)) (length (now octets)) ⌝ }
-    ensures words { λ _. ⌜ now (words .exit) ≡ sets (now (words .entry)) 0 (ruleWords (bodyAt reading (now (s .entry)) stop .pieces) (head (familyOf reading) first)) ⌝ }
+    ensures words { λ _. ⌜ now (words .exit) ≡ sets (now (words .entry)) 0 (ruleWords (bodyAt reading (now (s .entry)) stop .pieces) (head (familyOf reading) first Distinguisher.Absent)) ⌝ }
     ensures values { λ _. ⌜ now (values .exit) ≡ sets (now (values .entry)) first (map numberOf (bodyAt reading (now (s .entry)) stop .operators)) ⌝ }
     ensures octets { λ _. ⌜ now (octets .exit) ≡ sets (now (octets .entry)) first (map octetOf (bodyAt reading (now (s .entry)) stop .operators)) ⌝ }
+    ensures few { λ _. ⌜ length (bodyAt reading (now (s .entry)) stop .pieces) ≤ 13 ⌝ }
 {
     let mut at: usize = 0;
     let mut start: usize = 0;
@@ -136,10 +139,11 @@ fn put_all(
     stored::put_tail(words, 0, count, choices::family_of(reading), first);
 }
 
-// The first walk over what follows the length.
-fn test_body(reading: Reading, input: &[u8], start: usize, size: usize) -> ReadInto
+// The distinguisher where one is expected, and the first walk over what follows. The test of the mode stands before all that it changes, so that a
+// reading without one goes as if there were none.
+fn test_body(reading: Reading, mode: u8, input: &[u8], start: usize, size: usize) -> ReadInto
     requires { ⌜ start ≤ length (now input) ⌝ }
-    ensures { λ r. ⌜ toldInto r ≡ takenOf (statedAt reading (now (input .entry)) start size) ⌝ }
+    ensures { λ r. ⌜ toldInto r ≡ takenOf (statedAt reading (expects mode) (now (input .entry)) start size) ⌝ }
 {
     if input.len() - start < size {
         return ReadInto::Refused(Fault {
@@ -148,20 +152,34 @@ fn test_body(reading: Reading, input: &[u8], start: usize, size: usize) -> ReadI
         });
     }
     let used = start + size;
+    let mut from = start;
+    let mut left = size;
+    if mode == 2 {
+        let front = choices::front(reading, true);
+        if size < front {
+            return ReadInto::Refused(Fault {
+                error: FlowSpecError::Outer(OuterError::ShortDistinguisher),
+                place: Place::Octet(used),
+            });
+        }
+        from = start + front;
+        left = size - front;
+    }
     let end = choices::bound(reading, input.len(), used);
-    match walk::walk(reading, &input[start..end], size) {
+    match walk::walk(reading, &input[from..end], left) {
         Walked::Accepted { operators } => ReadInto::Read {
             used: used,
             operators: operators,
         },
-        Walked::Refused(fault) => ReadInto::Refused(fault.moved(start)),
+        Walked::Refused(fault) => ReadInto::Refused(fault.moved(from)),
     }
 }
 
-// What a reading with room for all would answer. Nothing is lent to be written. The length field is read in small steps, and not by
+// What a reading with room for all would answer. A mode of 2 expects a distinguisher, any other none; it is a number and no bool, so that the test of it
+// stays where it is made. Nothing is lent to be written. The length field is read in small steps, and not by
 // `Cursor::parse_length`, whose enum would go through memory.
-pub fn test(reading: Reading, input: &[u8]) -> ReadInto
-    ensures { λ r. ⌜ toldInto r ≡ takenOf (readAt reading (now (input .entry))) ⌝ }
+pub fn test(reading: Reading, mode: u8, input: &[u8]) -> ReadInto
+    ensures { λ r. ⌜ toldInto r ≡ takenOf (readAt reading (expects mode) (now (input .entry))) ⌝ }
 {
     let n = input.len();
     if too_long(reading, n) {
@@ -183,7 +201,13 @@ pub fn test(reading: Reading, input: &[u8]) -> ReadInto
             place: Place::Octet(n),
         });
     }
-    test_body(reading, input, start, octets::length_value(input, 0, start))
+    test_body(
+        reading,
+        mode,
+        input,
+        start,
+        octets::length_value(input, 0, start),
+    )
 }
 
 // What lent lists of so many words, values and octets lack for a rule with so many operators: nothing, or the number that NoRoom carries. A rule
@@ -203,10 +227,22 @@ pub fn lacking(operators: usize, words: usize, values: usize, octets: usize) -> 
     0
 }
 
+// The distinguisher of an input that was tested, from the place after its length.
+fn distinguisher_in(reading: Reading, mode: u8, input: &[u8], at: usize) -> Distinguisher
+    requires { ⌜ at + frontOf reading (expects mode) ≤ length (now input) ⌝ }
+    ensures { λ r. ⌜ r ≡ frontAt (frontOf reading (expects mode)) (now (input .entry)) at ⌝ }
+{
+    if choices::front(reading, mode == 2) == 0 {
+        return Distinguisher::Absent;
+    }
+    Distinguisher::Is(octets::read_value(input, at, 3))
+}
+
 // The second pass over an input that was tested, and used so many octets: its rule to the first 64 words, its operators to the lists from `first`
 // on. Nothing is tested again. No entry point.
 pub fn store(
     reading: Reading,
+    mode: u8,
     input: &[u8],
     used: usize,
     words: &mut [u64],
@@ -214,13 +250,14 @@ pub fn store(
     octets: &mut [u8],
     first: usize,
 )
-    requires accepted { ⌜ (isRead (readAt reading (now input)) ≡ true) × (used ≡ readOf reading (now input) .used) ⌝ }
-    requires room { ⌜ (64 ≤ length (now words)) × Places first (length (readOf reading (now input) .operators)) (length (now values)) (length (now octets)) ⌝ }
-    ensures words { λ _. ⌜ now (words .exit) ≡ sets (now (words .entry)) 0 (ruleWords (readOf reading (now (input .entry)) .pieces) (head (readOf reading (now (input .entry)) .family) first)) ⌝ }
-    ensures values { λ _. ⌜ now (values .exit) ≡ sets (now (values .entry)) first (map numberOf (readOf reading (now (input .entry)) .operators)) ⌝ }
-    ensures octets { λ _. ⌜ now (octets .exit) ≡ sets (now (octets .entry)) first (map octetOf (readOf reading (now (input .entry)) .operators)) ⌝ }
+    requires accepted { ⌜ (isRead (readAt reading (expects mode) (now input)) ≡ true) × (used ≡ readOf reading (expects mode) (now input) .used) ⌝ }
+    requires room { ⌜ (64 ≤ length (now words)) × Places first (length (readOf reading (expects mode) (now input) .operators)) (length (now values)) (length (now octets)) ⌝ }
+    ensures words { λ _. ⌜ now (words .exit) ≡ sets (now (words .entry)) 0 (ruleWords (readOf reading (expects mode) (now (input .entry)) .pieces) (head (readOf reading (expects mode) (now (input .entry)) .family) first (readOf reading (expects mode) (now (input .entry)) .distinguisher))) ⌝ }
+    ensures values { λ _. ⌜ now (values .exit) ≡ sets (now (values .entry)) first (map numberOf (readOf reading (expects mode) (now (input .entry)) .operators)) ⌝ }
+    ensures octets { λ _. ⌜ now (octets .exit) ≡ sets (now (octets .entry)) first (map octetOf (readOf reading (expects mode) (now (input .entry)) .operators)) ⌝ }
 {
-    let start = octets::length_width(input[0]);
+    let at = octets::length_width(input[0]);
+    let start = at + choices::front(reading, mode == 2);
     let end = choices::bound(reading, input.len(), used);
     put_all(
         reading,
@@ -231,22 +268,26 @@ pub fn store(
         octets,
         first,
     );
+    if mode == 2 {
+        stored::put_distinguisher(words, 0, distinguisher_in(reading, mode, input, at));
+    }
 }
 
-// Any of the readings, to one rule place and to the operator lists. Nothing is written on a refusal, and places past the last one filled stay.
+// Any of the readings, told whether a distinguisher is expected, to one rule place and to the operator lists. Nothing is written on a refusal, and places past the last one filled stay.
 pub fn read_into(
     reading: Reading,
+    mode: u8,
     input: &[u8],
     words: &mut [u64],
     values: &mut [u64],
     octets: &mut [u8],
 ) -> ReadInto
-    ensures answer { λ r. ⌜ toldInto r ≡ takenOf (readInto reading (now (input .entry)) (length (now (words .entry))) (length (now (values .entry))) (length (now (octets .entry)))) ⌝ }
-    ensures words { λ r. ⌜ now (words .exit) ≡ sets (now (words .entry)) 0 (wordsOf (readInto reading (now (input .entry)) (length (now (words .entry))) (length (now (values .entry))) (length (now (octets .entry))))) ⌝ }
-    ensures values { λ r. ⌜ now (values .exit) ≡ sets (now (values .entry)) 0 (map numberOf (operatorsOf (readInto reading (now (input .entry)) (length (now (words .entry))) (length (now (values .entry))) (length (now (octets .entry)))))) ⌝ }
-    ensures octets { λ r. ⌜ now (octets .exit) ≡ sets (now (octets .entry)) 0 (map octetOf (operatorsOf (readInto reading (now (input .entry)) (length (now (words .entry))) (length (now (values .entry))) (length (now (octets .entry)))))) ⌝ }
+    ensures answer { λ r. ⌜ toldInto r ≡ takenOf (readInto reading (expects mode) (now (input .entry)) (length (now (words .entry))) (length (now (values .entry))) (length (now (octets .entry)))) ⌝ }
+    ensures words { λ r. ⌜ now (words .exit) ≡ sets (now (words .entry)) 0 (wordsOf (readInto reading (expects mode) (now (input .entry)) (length (now (words .entry))) (length (now (values .entry))) (length (now (octets .entry))))) ⌝ }
+    ensures values { λ r. ⌜ now (values .exit) ≡ sets (now (values .entry)) 0 (map numberOf (operatorsOf (readInto reading (expects mode) (now (input .entry)) (length (now (words .entry))) (length (now (values .entry))) (length (now (octets .entry)))))) ⌝ }
+    ensures octets { λ r. ⌜ now (octets .exit) ≡ sets (now (octets .entry)) 0 (map octetOf (operatorsOf (readInto reading (expects mode) (now (input .entry)) (length (now (words .entry))) (length (now (values .entry))) (length (now (octets .entry)))))) ⌝ }
 {
-    let tested = test(reading, input);
+    let tested = test(reading, mode, input);
     match tested {
         ReadInto::Refused(fault) => ReadInto::Refused(fault),
         ReadInto::Read { used, operators } => {
@@ -257,7 +298,7 @@ pub fn read_into(
                     place: Place::Nowhere,
                 });
             }
-            store(reading, input, used, words, values, octets, 0);
+            store(reading, mode, input, used, words, values, octets, 0);
             ReadInto::Read {
                 used: used,
                 operators: operators,
@@ -266,21 +307,22 @@ pub fn read_into(
     }
 }
 
-// The standard reading, family 4 or 6 given.
+// The standard reading, family 4 or 6 given, and whether a distinguisher is expected.
 pub fn read(
     family: u8,
+    mode: u8,
     input: &[u8],
     words: &mut [u64],
     values: &mut [u64],
     octets: &mut [u8],
 ) -> ReadInto
-    ensures answer { λ r. ⌜ toldInto r ≡ takenOf (standardInto family (now (input .entry)) (length (now (words .entry))) (length (now (values .entry))) (length (now (octets .entry)))) ⌝ }
-    ensures words { λ r. ⌜ now (words .exit) ≡ sets (now (words .entry)) 0 (wordsOf (standardInto family (now (input .entry)) (length (now (words .entry))) (length (now (values .entry))) (length (now (octets .entry))))) ⌝ }
-    ensures values { λ r. ⌜ now (values .exit) ≡ sets (now (values .entry)) 0 (map numberOf (operatorsOf (standardInto family (now (input .entry)) (length (now (words .entry))) (length (now (values .entry))) (length (now (octets .entry)))))) ⌝ }
-    ensures octets { λ r. ⌜ now (octets .exit) ≡ sets (now (octets .entry)) 0 (map octetOf (operatorsOf (standardInto family (now (input .entry)) (length (now (words .entry))) (length (now (values .entry))) (length (now (octets .entry)))))) ⌝ }
+    ensures answer { λ r. ⌜ toldInto r ≡ takenOf (standardInto family (expects mode) (now (input .entry)) (length (now (words .entry))) (length (now (values .entry))) (length (now (octets .entry)))) ⌝ }
+    ensures words { λ r. ⌜ now (words .exit) ≡ sets (now (words .entry)) 0 (wordsOf (standardInto family (expects mode) (now (input .entry)) (length (now (words .entry))) (length (now (values .entry))) (length (now (octets .entry))))) ⌝ }
+    ensures values { λ r. ⌜ now (values .exit) ≡ sets (now (values .entry)) 0 (map numberOf (operatorsOf (standardInto family (expects mode) (now (input .entry)) (length (now (words .entry))) (length (now (values .entry))) (length (now (octets .entry)))))) ⌝ }
+    ensures octets { λ r. ⌜ now (octets .exit) ≡ sets (now (octets .entry)) 0 (map octetOf (operatorsOf (standardInto family (expects mode) (now (input .entry)) (length (now (words .entry))) (length (now (values .entry))) (length (now (octets .entry)))))) ⌝ }
 {
     match choices::reading_of(family) {
-        Standard::Is(reading) => read_into(reading, input, words, values, octets),
+        Standard::Is(reading) => read_into(reading, mode, input, words, values, octets),
         Standard::Refused(fault) => ReadInto::Refused(fault),
     }
 }

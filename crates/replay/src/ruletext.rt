@@ -105,7 +105,7 @@ pub fn read_front(
             place: Place::Nowhere,
         });
     }
-    reading::read_into(Reading::Plain, &input[..n], words, values, octets)
+    reading::read_into(Reading::Plain, 0, &input[..n], words, values, octets)
 }
 
 // A place further, where there is one.

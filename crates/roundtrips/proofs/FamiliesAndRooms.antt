@@ -2,6 +2,7 @@
 -- accepted without a bound is accepted with it.
 use Prim.Native.Nat.{ℕ, _≤_}
 use mathlib.Core.Path.{_≡_, refl, ap, _∙_, sym}
+use mathlib.Core.Bool.{Bool}
 use mathlib.Core.List.{List}
 use native.Mathlib.Omega.{arith}
 use borrow.Author.Tests.{ltb-false, le-ltb, leb-true, leb-false}
@@ -31,19 +32,19 @@ not-plain Plain u e = u
 not-plain Ipv4 u e = let z : _≡_ {A = ℕ} 0 1 = cc in omega arith
 not-plain Ipv6 u e = let z : _≡_ {A = ℕ} 0 1 = cc in omega arith
 
-module _ (family : ℕ) (s : List ℕ) (w v o : ℕ) where
-  into-by : {a : Answer Reading} → standardOf family ≡ a → standardInto family s w v o ≡ byReading a s w v o
+module _ (family : ℕ) (rd : Bool) (s : List ℕ) (w v o : ℕ) where
+  into-by : {a : Answer Reading} → standardOf family ≡ a → standardInto family rd s w v o ≡ byReading a rd s w v o
   unfolding standardInto
-  into-by e = ap (λ (a : Answer Reading). byReading a s w v o) e
+  into-by e = ap (λ (a : Answer Reading). byReading a rd s w v o) e
 
-  pub standard-into : (r : Reading) → standardOf family ≡ accepts r → standardInto family s w v o ≡ readInto r s w v o
+  pub standard-into : (r : Reading) → standardOf family ≡ accepts r → standardInto family rd s w v o ≡ readInto r rd s w v o
   standard-into r e = into-by e
 
-  by-family : (rule : ReadRule) (a : Answer Reading) → standardOf family ≡ a → byReading a s w v o ≡ accepts rule → Named family
+  by-family : (rule : ReadRule) (a : Answer Reading) → standardOf family ≡ a → byReading a rd s w v o ≡ accepts rule → Named family
   by-family rule (accepts r) i e = record { reading = r; is = i }
   by-family rule (declines f) i e = never e
 
-  pub read-named : (rule : ReadRule) → standardInto family s w v o ≡ accepts rule → Named family
+  pub read-named : (rule : ReadRule) → standardInto family rd s w v o ≡ accepts rule → Named family
   read-named rule e = by-family rule (standardOf family) refl (sym (into-by refl) ∙ e)
 
 -- ---- room
@@ -63,15 +64,15 @@ room-in rule w v o e =
     (λ t. never (rw (f, t) at e))
     (λ g. let s = shorter-least n v o (ltb-false (shorter v o) n g) in record { for-rule = ltb-false w 64 f; in-values = s .0; in-octets = s .1 }))
 
-module _ (r : Reading) (s : List ℕ) (rule : ReadRule) (w v o : ℕ) where
-  by-read : readAt r s ≡ accepts rule → readInto r s w v o ≡ roomed (accepts rule) w v o
+module _ (r : Reading) (rd : Bool) (s : List ℕ) (rule : ReadRule) (w v o : ℕ) where
+  by-read : readAt r rd s ≡ accepts rule → readInto r rd s w v o ≡ roomed (accepts rule) w v o
   unfolding readInto
   by-read e = ap (λ (a : Answer ReadRule). roomed a w v o) e
 
-  pub had-room : readInto r s w v o ≡ accepts rule → Room rule w v o
-  had-room e = room-in rule w v o (sym (by-read (into-read r s w v o rule e)) ∙ e)
+  pub had-room : readInto r rd s w v o ≡ accepts rule → Room rule w v o
+  had-room e = room-in rule w v o (sym (by-read (into-read r rd s w v o rule e)) ∙ e)
 
-  pub with-room : readAt r s ≡ accepts rule → Room rule w v o → readInto r s w v o ≡ accepts rule
+  pub with-room : readAt r rd s ≡ accepts rule → Room rule w v o → readInto r rd s w v o ≡ accepts rule
   with-room e h =
       let n = length (rule .operators) in
       by-read e

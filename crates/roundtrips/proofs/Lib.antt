@@ -12,4 +12,5 @@ pub mod StoredPieces
 pub mod WrittenBodies
 pub mod WrittenComponents
 pub mod WrittenLists
+pub mod Distinguishers
 pub mod WrittenRules

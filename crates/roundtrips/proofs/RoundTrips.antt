@@ -18,6 +18,7 @@
 -- Words are below 2 ^ 64 and the octets of an input below 256, as their types have it (`Words`, `Octets`). Assumes nothing else.
 use Prim.Native.Nat.{ℕ}
 use mathlib.Core.Path.{_≡_, sym, ap, _∙_}
+use mathlib.Core.Bool.{Bool}
 use mathlib.Core.List.{List, [], _++_, map}
 use lib.ListN.{length}
 use lib.Seq.{sets}
@@ -40,7 +41,7 @@ use Rattle.writing.specs.declared.Written.{Written}
 use Rattle.writing.specs.Writings.{writtenFrom, writtenIn, toldWritten}
 use Rattle.writing.proofs.Laws.{written-named, written-in}
 use Rattle.writing.proofs.Once.{written-once as written-one}
-use Rattle.roundtrips.specs.Trips.{canonical, Canonical, Words, Room, Again}
+use Rattle.roundtrips.specs.Trips.{canonical, Canonical, expected, Words, Room, Again}
 use Rattle.roundtrips.proofs.CanonicalForm.{canonical-same}
 use Rattle.roundtrips.proofs.FamiliesAndRooms.{standard, not-plain, standard-into, with-room}
 use Rattle.roundtrips.proofs.ReadRules.{rewritten, read-fronts, into-written}
@@ -49,50 +50,54 @@ use Rattle.roundtrips.proofs.WrittenRules.{written-back}
 -- (a)
 module _ (w : Reading) (h : w ≡ Plain → ⊥) (words values octets : List ℕ) (room : ℕ) (xs : List ℕ) (rule : StoredRule) where
   pub written-read : Words words → ruleAt words 0 ≡ accepts rule → writtenFrom w words values octets room ≡ accepts xs
-      → (ys : List ℕ) → readAt w (xs ++ ys) ≡ accepts (readRule (canonical rule values octets) (familyOf w) (length xs))
+      → (ys : List ℕ)
+      → readAt w (expected (rule .head .distinguisher)) (xs ++ ys) ≡ accepts (readRule (canonical rule values octets) (familyOf w) (rule .head .distinguisher) (length xs))
   written-read ws i e ys = written-back w (standard w h) words values octets room xs rule ws i e ys
 
   pub written-read-same : Words words → ruleAt words 0 ≡ accepts rule → Canonical rule values octets → writtenFrom w words values octets room ≡ accepts xs
       → (ys : List ℕ)
-      → readAt w (xs ++ ys) ≡ accepts (readRule (body (rule .pieces) (opsOf (lent values octets (rule .head .first)) 0 (allOperators (rule .pieces)))) (familyOf w) (length xs))
+      → readAt w (expected (rule .head .distinguisher)) (xs ++ ys)
+      ≡ accepts (readRule (body (rule .pieces) (opsOf (lent values octets (rule .head .first)) 0 (allOperators (rule .pieces)))) (familyOf w) (rule .head .distinguisher) (length xs))
   written-read-same ws i c e ys =
-      written-read ws i e ys ∙ ap (λ b. accepts (readRule b (familyOf w) (length xs))) (canonical-same rule values octets c)
+      written-read ws i e ys ∙ ap (λ b. accepts (readRule b (familyOf w) (rule .head .distinguisher) (length xs))) (canonical-same rule values octets c)
 
 pub written-read-in : (family : ℕ) (words values octets : List ℕ) (room : ℕ) (xs : List ℕ) (rule : StoredRule)
     → Words words → ruleAt words 0 ≡ accepts rule → writtenIn family words values octets room ≡ accepts xs
-    → (ys : List ℕ) (lentWords lentValues lentOctets : ℕ) → Room (readRule (canonical rule values octets) family (length xs)) lentWords lentValues lentOctets
-    → standardInto family (xs ++ ys) lentWords lentValues lentOctets ≡ accepts (readRule (canonical rule values octets) family (length xs))
+    → (ys : List ℕ) (lentWords lentValues lentOctets : ℕ) → Room (readRule (canonical rule values octets) family (rule .head .distinguisher) (length xs)) lentWords lentValues lentOctets
+    → standardInto family (expected (rule .head .distinguisher)) (xs ++ ys) lentWords lentValues lentOctets
+    ≡ accepts (readRule (canonical rule values octets) family (rule .head .distinguisher) (length xs))
 written-read-in family words values octets room xs rule ws i e ys a b c r =
     let n = written-named family words values octets room xs e in
     let w = n .reading in
     let st = standard-shows family w (n .is) in
     let q = sym (written-in family words values octets w (n .is) room) ∙ e in
     let p = written-read w (not-plain w (st .0)) words values octets room xs rule ws i q ys in
-    standard-into family (xs ++ ys) a b c w (n .is)
-    ∙ with-room w (xs ++ ys) (readRule (canonical rule values octets) family (length xs)) a b c
-    (p ∙ ap (λ (f : ℕ). accepts (readRule (canonical rule values octets) f (length xs))) (st .1)) r
+    let d = rule .head .distinguisher in
+    standard-into family (expected d) (xs ++ ys) a b c w (n .is)
+    ∙ with-room w (expected d) (xs ++ ys) (readRule (canonical rule values octets) family d (length xs)) a b c
+    (p ∙ ap (λ (f : ℕ). accepts (readRule (canonical rule values octets) f d (length xs))) (st .1)) r
 
 -- (b)
-module _ (w : Reading) (h : w ≡ Plain → ⊥) (s : List ℕ) (rule : ReadRule) where
-  pub read-written : Octets s → readAt w s ≡ accepts rule → (words values octets : List ℕ)
+module _ (w : Reading) (h : w ≡ Plain → ⊥) (rd : Bool) (s : List ℕ) (rule : ReadRule) where
+  pub read-written : Octets s → readAt w rd s ≡ accepts rule → (words values octets : List ℕ)
       → Again
-      (writtenFrom w (ruleWords (rule .pieces) (head (rule .family) 0) ++ words) (map numberOf (rule .operators) ++ values) (map octetOf (rule .operators) ++ octets))
-      (readAt w) rule
-  read-written o e words values octets = rewritten w (standard w h) words values octets s rule o e
+      (writtenFrom w (ruleWords (rule .pieces) (head (rule .family) 0 (rule .distinguisher)) ++ words) (map numberOf (rule .operators) ++ values) (map octetOf (rule .operators) ++ octets))
+      (readAt w rd) rule
+  read-written o e words values octets = rewritten w (standard w h) rd words values octets s rule o e
 
-  pub read-canonical : Octets s → readAt w s ≡ accepts rule → (values octets : List ℕ)
-      → Canonical (storedRule (rule .pieces) (head (rule .family) 0)) (map numberOf (rule .operators) ++ values) (map octetOf (rule .operators) ++ octets)
-  read-canonical o e values octets = read-fronts w (standard w h) [] values octets s rule o e
+  pub read-canonical : Octets s → readAt w rd s ≡ accepts rule → (values octets : List ℕ)
+      → Canonical (storedRule (rule .pieces) (head (rule .family) 0 (rule .distinguisher))) (map numberOf (rule .operators) ++ values) (map octetOf (rule .operators) ++ octets)
+  read-canonical o e values octets = read-fronts w (standard w h) rd [] values octets s rule o e
 
-pub read-written-in : (family : ℕ) (s words values octets : List ℕ) (rule : ReadRule)
-    → Octets s → standardInto family s (length words) (length values) (length octets) ≡ accepts rule
+pub read-written-in : (family : ℕ) (rd : Bool) (s words values octets : List ℕ) (rule : ReadRule)
+    → Octets s → standardInto family rd s (length words) (length values) (length octets) ≡ accepts rule
     → Again
-    (writtenIn family (sets words 0 (ruleWords (rule .pieces) (head (rule .family) 0))) (sets values 0 (map numberOf (rule .operators))) (sets octets 0 (map octetOf (rule .operators))))
-    (λ x. standardInto family x (length words) (length values) (length octets)) rule
-read-written-in family s words values octets rule o e = into-written family s words values octets rule o e
+    (writtenIn family (sets words 0 (ruleWords (rule .pieces) (head (rule .family) 0 (rule .distinguisher)))) (sets values 0 (map numberOf (rule .operators))) (sets octets 0 (map octetOf (rule .operators))))
+    (λ x. standardInto family rd x (length words) (length values) (length octets)) rule
+read-written-in family rd s words values octets rule o e = into-written family rd s words values octets rule o e
 
 -- (c)
-pub body-exact : (w : Reading) → (w ≡ Plain → ⊥) → (s : List ℕ) (rule : ReadRule) → readAt w s ≡ accepts rule → Exact w s rule
+pub body-exact : (w : Reading) → (w ≡ Plain → ⊥) → (rd : Bool) (s : List ℕ) (rule : ReadRule) → readAt w rd s ≡ accepts rule → Exact w rd s rule
 body-exact = to-the-last-octet
 
 -- (d)

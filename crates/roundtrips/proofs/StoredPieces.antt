@@ -19,7 +19,7 @@ use Rattle.roundtrips.proofs.WrittenComponents.{Sound}
 use Rattle.roundtrips.proofs.WrittenBodies.{AllSound}
 
 -- whichever is picked
-either : {A : Type 0} (P : A → Type 0) (t : Bool) {x y : A} → P x → P y → P (pick t x y)
+pub either : {A : Type 0} (P : A → Type 0) (t : Bool) {x y : A} → P x → P y → P (pick t x y)
 either P true p q = p
 either P false p q = q
 

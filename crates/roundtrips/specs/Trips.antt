@@ -3,10 +3,13 @@
 -- components with the same operators, counted so, reserved bits 0. What comes back of a rule that was read is that rule (`Again`).
 use Prim.Native.Nat.{ℕ, _+_, _^_, _≤_, _<_}
 use mathlib.Core.Path.{_≡_}
+use mathlib.Core.Bool.{Bool, true, false}
 use mathlib.Core.List.{List, [], _∷_, _++_, map}
 use lib.ListN.{length, getD}
 use Rattle.ground.specs.Answers.{Answer, accepts}
 use Rattle.operators.specs.Ops.{kindOf, Op}
+use Rattle.rules.specs.declared.Distinguisher.{Distinguisher}
+use Rattle.rules.specs.declared.Distinguisher.the-variants.{Absent, Is}
 use Rattle.stored.specs.declared.Piece.{Piece}
 use Rattle.stored.specs.declared.Piece.the-variants.{Prefix, Operators, NoRecord}
 use Rattle.stored.specs.Pieces.{typeOf}
@@ -55,6 +58,11 @@ pub record Canonical (s : StoredRule) (values octets : List ℕ) : Type 0 where
   pub counted : placed 0 (s .pieces) ≡ s .pieces
   pub clear : cleared (lent values octets (s .head .first)) (s .pieces) ≡ named (lent values octets (s .head .first)) (s .pieces)
 
+-- a reading of what was written of a rule is told whether the rule has a distinguisher
+abbrev pub expected : Distinguisher → Bool
+expected Absent = false
+expected (Is n) = true
+
 -- what every lent word is
 abbrev pub Words : List ℕ → Type 0
 Words ws = (i : ℕ) → getD ws i 0 < 2 ^ 64
@@ -70,4 +78,4 @@ pub record Again (write : ℕ → Answer (List ℕ)) (read : List ℕ → Answer
   pub out : List ℕ
   pub no-longer : length out ≤ rule .used
   pub written : (room : ℕ) → length out ≤ room → write room ≡ accepts out
-  pub back : (ys : List ℕ) → read (out ++ ys) ≡ accepts (readRule (body (rule .pieces) (rule .operators)) (rule .family) (length out))
+  pub back : (ys : List ℕ) → read (out ++ ys) ≡ accepts (readRule (body (rule .pieces) (rule .operators)) (rule .family) (rule .distinguisher) (length out))

@@ -57,6 +57,12 @@ pub struct Slot {
     pub component: FlowSpecComponent,
 }
 
+// The route distinguisher of a rule: a rule of a virtual network has one, eight octets, held as the number that they spell.
+pub enum Distinguisher {
+    Absent,
+    Is(u64),
+}
+
 // At most 13 components. `family` is 0 for a plain rule, else 4 or 6; `first` is the place in the lent lists where the rule's operators
 // begin, 0 as a reading gives it.
 pub struct FlowSpecNlri {
@@ -64,6 +70,7 @@ pub struct FlowSpecNlri {
     pub count: usize,
     pub family: u8,
     pub first: usize,
+    pub distinguisher: Distinguisher,
 }
 
 impl NetworkPrefix {
@@ -217,15 +224,16 @@ fn holds_in(slots: [Slot; 13], count: usize, mark: u8) -> bool
 }
 
 impl FlowSpecNlri {
-    // A plain rule whose operators stand at the start of the lent lists.
+    // A plain rule without a distinguisher, whose operators stand at the start of the lent lists.
     pub fn new(slots: [Slot; 13], count: usize) -> FlowSpecNlri
-        ensures { λ r. ⌜ r ≡ record { slots = slots; count = count; family = 0; first = 0 } ⌝ }
+        ensures { λ r. ⌜ r ≡ record { slots = slots; count = count; family = 0; first = 0; distinguisher = Distinguisher.Absent } ⌝ }
     {
         FlowSpecNlri {
             slots: slots,
             count: count,
             family: 0,
             first: 0,
+            distinguisher: Distinguisher::Absent,
         }
     }
 

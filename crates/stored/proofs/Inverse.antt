@@ -13,13 +13,16 @@ use lib.Seq.{sets, sets-eq, length-sets, drop-at, drop-drop, getD-drop, take-add
 use Rattle.ground.proofs.Cases.{both}
 use Rattle.ground.specs.Answers.{Answer, accepts, refuses}
 use Rattle.ground.specs.Picks.{pick}
+use Rattle.rules.specs.declared.Distinguisher.{Distinguisher}
 use Rattle.rules.specs.declared.NetworkPrefix.{NetworkPrefix}
 use Rattle.rules.specs.declared.NetworkPrefix.the-variants.{Ipv4, Ipv6, Ipv4Offset, Ipv6Offset}
 use Rattle.stored.specs.declared.Quad.{Quad}
 use Rattle.stored.specs.declared.Piece.{Piece}
 use Rattle.stored.specs.declared.Piece.the-variants.{Prefix, Operators, NoRecord}
 use Rattle.stored.specs.Pieces.{quad, quadOf, quadWords, pieceWords, prefixQuad, networkOf, named, sameQuad, quadAt, isPiece, pieceOf, pieceAt, isRecord}
+use Rattle.stored.specs.Distinguishers.{presenceWord, bitsWord, distinguisherAt, isDistinguisher}
 use Rattle.stored.specs.Stored.{Head, head, allWords, tailWords, ruleWords, countAt, familyAt, piecesFrom, recordsFrom, zerosFrom, StoredRule, storedRule, isFramed, isRule, storedAt, ruleAt}
+use Rattle.stored.proofs.Distinguishers.{put-named, put-tested, tested-words}
 use Rattle.stored.proofs.Words.{framed, rule-framed, rule-records, at-good, length-all, length-pieces}
 
 -- what every value of these types is: each field fits its width
@@ -173,7 +176,7 @@ pub length-rule : (ps : List Piece) (h : Head) → length ps ≤ 13 → length (
 unfolding ruleWords tailWords
 length-rule ps h few =
     let z : List ℕ = replicate (52 - 4 * length ps) 0 in
-    let t : List ℕ = length ps ∷ h .family ∷ h .first ∷ replicate 9 0 in
+    let t : List ℕ = length ps ∷ h .family ∷ h .first ∷ presenceWord (h .distinguisher) ∷ bitsWord (h .distinguisher) ∷ replicate 7 0 in
     let y : length z ≡ 52 - 4 * length ps = length-replicate (52 - 4 * length ps) _ in
     let a = length-append (allWords ps) (z ++ t) in
     let b = length-append z t in
@@ -214,7 +217,7 @@ module _ (ps : List Piece) (h : Head) (few : length ps ≤ 13) (fit : FitAll ps)
   rule-here ws at more e =
       let n = length ps in
       let z : List ℕ = replicate (52 - 4 * n) 0 in
-      let t : List ℕ = n ∷ h .family ∷ h .first ∷ replicate 9 0 in
+      let t : List ℕ = n ∷ h .family ∷ h .first ∷ presenceWord (h .distinguisher) ∷ bitsWord (h .distinguisher) ∷ replicate 7 0 in
       let d : drop at ws ≡ allWords ps ++ (z ++ (t ++ more)) = e ∙ append-assoc (allWords ps) (z ++ t) more ∙ ap (λ (l : List ℕ). allWords ps ++ l) (append-assoc z t more) in
       let a = pieces-back ps fit ws at (z ++ (t ++ more)) d in
       let b = zeros-back (52 - 4 * n) ws (at + 4 * n) (t ++ more) (a .2) in
@@ -228,11 +231,17 @@ module _ (ps : List Piece) (h : Head) (few : length ps ≤ 13) (fit : FitAll ps)
       let w0 : getD ws (at + 52) 0 ≡ n = sym (ap (λ (j : ℕ). getD ws j 0) k0) ∙ w 0 in
       let w1 : getD ws (at + 53) 0 ≡ h .family = sym (ap (λ (j : ℕ). getD ws j 0) k1) ∙ w 1 in
       let w2 : getD ws (at + 54) 0 ≡ h .first = sym (ap (λ (j : ℕ). getD ws j 0) k2) ∙ w 2 in
-      let v : drop (at + 55) ws ≡ replicate 9 0 ++ more = sym (ap (λ (j : ℕ). drop j ws) k3) ∙ rest-here ws (at + 52) (t ++ more) u 3 in
-      let l = zeros-back 9 ws (at + 55) more v in (
-        ap₂ (λ (m f : ℕ). (leb m 13 && (ltb f 256 && (zerosFrom (52 - 4 * m) ws (at + 4 * m) && zerosFrom 9 ws (at + 55)))) && recordsFrom m ws at) w0 w1
-            ∙ rw (le-leb n 13 few, lt-ltb (h .family) 256 octet, b .0, l .0, a .1),
-        ap₂ (λ (m f : ℕ). storedRule (piecesFrom m ws at) (head f (getD ws (at + 54) 0))) w0 w1 ∙ ap₂ (λ (x : List Piece) (g : ℕ). storedRule x (head (h .family) g)) (a .0) w2,
+      let k4 : at + 52 + 4 ≡ at + 56 = omega arith in
+      let k5 : at + 52 + 5 ≡ at + 57 = omega arith in
+      let w3 : getD ws (at + 55) 0 ≡ presenceWord (h .distinguisher) = sym (ap (λ (j : ℕ). getD ws j 0) k3) ∙ w 3 in
+      let w4 : getD ws (at + 56) 0 ≡ bitsWord (h .distinguisher) = sym (ap (λ (j : ℕ). getD ws j 0) k4) ∙ w 4 in
+      let v : drop (at + 57) ws ≡ replicate 7 0 ++ more = sym (ap (λ (j : ℕ). drop j ws) k5) ∙ rest-here ws (at + 52) (t ++ more) u 5 in
+      let l = zeros-back 7 ws (at + 57) more v in (
+        ap₂ (λ (m f : ℕ). (leb m 13 && (ltb f 256 && (isDistinguisher ws at && (zerosFrom (52 - 4 * m) ws (at + 4 * m) && zerosFrom 7 ws (at + 57))))) && recordsFrom m ws at) w0 w1
+            ∙ rw (le-leb n 13 few, lt-ltb (h .family) 256 octet, put-tested ws at (h .distinguisher) w3 w4, b .0, l .0, a .1),
+        ap₂ (λ (m f : ℕ). storedRule (piecesFrom m ws at) (head f (getD ws (at + 54) 0) (distinguisherAt ws at))) w0 w1
+            ∙ ap₂ (λ (x : List Piece) (g : ℕ). storedRule x (head (h .family) g (distinguisherAt ws at))) (a .0) w2
+            ∙ ap (λ (d : Distinguisher). storedRule ps (head (h .family) (h .first) d)) (put-named ws at (h .distinguisher) w3 w4),
       )
 
   -- put, then read
@@ -291,19 +300,27 @@ rule-there ws at h e =
     let m : length (piecesFrom n ws at) ≡ n = length-pieces n ws at in
     let a = pieces-there n ws at (omega arith) (rule-records ws at e) in
     let b = zeros-there (52 - 4 * n) ws (at + 4 * n) (omega arith) (r .unused) in
-    let c = zeros-there 9 ws (at + 55) (omega arith) (r .last) in
+    let c = zeros-there 7 ws (at + 57) (omega arith) (r .last) in
+    let d = tested-words ws at (r .distinguisher) in
     let k : at + 4 * n + (52 - 4 * n) ≡ at + 52 = omega arith in
     let k1 : at + 52 + 1 ≡ at + 53 = omega arith in
     let k2 : at + 53 + 1 ≡ at + 54 = omega arith in
     let k3 : at + 54 + 1 ≡ at + 55 = omega arith in
+    let k4 : at + 55 + 1 ≡ at + 56 = omega arith in
+    let k5 : at + 56 + 1 ≡ at + 57 = omega arith in
     let s : 4 * n + (52 - 4 * n + 12) ≡ 64 = omega arith in
-    let t : n ∷ getD ws (at + 53) 0 ∷ getD ws (at + 54) 0 ∷ replicate 9 0 ≡ take 12 (drop (at + 52) ws) =
-    ap (λ (l : List ℕ). n ∷ getD ws (at + 53) 0 ∷ getD ws (at + 54) 0 ∷ l) (c ∙ ap (λ (j : ℕ). take 9 (drop j ws)) (sym k3))
+    let u : presenceWord (distinguisherAt ws at) ∷ bitsWord (distinguisherAt ws at) ∷ replicate 7 0 ≡ take 9 (drop (at + 55) ws) =
+    ap₂ (λ (x y : ℕ). x ∷ y ∷ replicate 7 0) (d .0) (d .1)
+    ∙ ap (λ (l : List ℕ). getD ws (at + 55) 0 ∷ getD ws (at + 56) 0 ∷ l) (c ∙ ap (λ (j : ℕ). take 7 (drop j ws)) (sym k5))
+    ∙ ap (λ (l : List ℕ). getD ws (at + 55) 0 ∷ l) (sym (word-there ws (at + 56) 7 (omega arith)) ∙ ap (λ (j : ℕ). take 8 (drop j ws)) (sym k4))
+    ∙ sym (word-there ws (at + 55) 8 (omega arith)) in
+    let t : n ∷ getD ws (at + 53) 0 ∷ getD ws (at + 54) 0 ∷ presenceWord (distinguisherAt ws at) ∷ bitsWord (distinguisherAt ws at) ∷ replicate 7 0 ≡ take 12 (drop (at + 52) ws) =
+    ap (λ (l : List ℕ). n ∷ getD ws (at + 53) 0 ∷ getD ws (at + 54) 0 ∷ l) (u ∙ ap (λ (j : ℕ). take 9 (drop j ws)) (sym k3))
     ∙ ap (λ (l : List ℕ). n ∷ getD ws (at + 53) 0 ∷ l) (sym (word-there ws (at + 54) 9 (omega arith)) ∙ ap (λ (j : ℕ). take 10 (drop j ws)) (sym k2))
     ∙ ap (λ (l : List ℕ). n ∷ l) (sym (word-there ws (at + 53) 10 (omega arith)) ∙ ap (λ (j : ℕ). take 11 (drop j ws)) (sym k1))
     ∙ sym (word-there ws (at + 52) 11 (omega arith)) in
-    ap (λ (j : ℕ). allWords (piecesFrom n ws at) ++ (replicate (52 - 4 * j) 0 ++ (j ∷ getD ws (at + 53) 0 ∷ getD ws (at + 54) 0 ∷ replicate 9 0))) m
-    ∙ ap₂ (λ (x y : List ℕ). x ++ (y ++ (n ∷ getD ws (at + 53) 0 ∷ getD ws (at + 54) 0 ∷ replicate 9 0))) a b
+    ap (λ (j : ℕ). allWords (piecesFrom n ws at) ++ (replicate (52 - 4 * j) 0 ++ (j ∷ getD ws (at + 53) 0 ∷ getD ws (at + 54) 0 ∷ presenceWord (distinguisherAt ws at) ∷ bitsWord (distinguisherAt ws at) ∷ replicate 7 0))) m
+    ∙ ap₂ (λ (x y : List ℕ). x ++ (y ++ (n ∷ getD ws (at + 53) 0 ∷ getD ws (at + 54) 0 ∷ presenceWord (distinguisherAt ws at) ∷ bitsWord (distinguisherAt ws at) ∷ replicate 7 0))) a b
     ∙ ap (λ (x : List ℕ). take (4 * n) (drop at ws) ++ (take (52 - 4 * n) (drop (at + 4 * n) ws) ++ x)) (t ∙ ap (λ (j : ℕ). take 12 (drop j ws)) (sym k))
     ∙ ap (λ (x : List ℕ). take (4 * n) (drop at ws) ++ x) (take-join ws (at + 4 * n) (52 - 4 * n) 12)
     ∙ take-join ws at (4 * n) (52 - 4 * n + 12)

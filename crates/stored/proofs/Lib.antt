@@ -1,3 +1,4 @@
+pub mod Distinguishers
 pub mod Inverse
 pub mod Scans
 pub mod Tests

@@ -1,6 +1,6 @@
 -- Words that are all 0: their bits joined are 0.
 use Prim.Native.Nat.{ℕ, suc, _+_, _-_, _*_, _≤_, _<_}
-use mathlib.Core.Path.{_≡_, refl, sym, ap, _∙_}
+use mathlib.Core.Path.{_≡_, refl, sym, ap, ap₂, _∙_}
 use mathlib.Core.Bool.{Bool, true, false, _&&_, false≢true}
 use mathlib.Core.List.{List}
 use native.Mathlib.Omega.{arith}
@@ -11,7 +11,7 @@ use lib.ListN.{getD}
 use Rattle.ground.proofs.Cases.{by-test}
 use Rattle.stored.specs.Stored.{zerosFrom}
 
-none-of : (a b : ℕ) → bitOr a b ≡ 0 → (a ≡ 0) × (b ≡ 0)
+pub none-of : (a b : ℕ) → bitOr a b ≡ 0 → (a ≡ 0) × (b ≡ 0)
 none-of a b e =
     let s : bitOr a b + bitAnd a b ≡ a + b = or-add-and a b in
     let l : bitAnd a b ≤ a = and-le-l a b in
@@ -60,11 +60,20 @@ module _ (ws : List ℕ) (at to : ℕ) where
       ∙ step (bitOr (bitOr sum (getD ws at 0)) (getD ws (at + 1) 0)) 2 (at + 3) (omega arith) (omega arith)
       ∙ step (bitOr (bitOr (bitOr sum (getD ws at 0)) (getD ws (at + 1) 0)) (getD ws (at + 2) 0)) 3 next (omega arith) (omega arith)
 
--- the last nine words of a rule: one, and two groups
-pub last-nine : (ws : List ℕ) (base r : ℕ) → zerosFrom (base + 4 * 16 - (base + 4 * 14)) ws (base + 4 * 14) ≡ eqb r 0 → zerosFrom 9 ws (base + 55) ≡ eqb (bitOr (getD ws (base + 55) 0) r) 0
+-- the last seven words of a rule: three, and a group
+pub last-seven : (ws : List ℕ) (base r : ℕ) → zerosFrom (base + 4 * 16 - (base + 4 * 15)) ws (base + 4 * 15) ≡ eqb r 0
+    → zerosFrom 7 ws (base + 57) ≡ eqb (bitOr (bitOr (bitOr (getD ws (base + 57) 0) (getD ws (base + 58) 0)) (getD ws (base + 59) 0)) r) 0
 unfolding zerosFrom
-last-nine ws base r e =
-    let n : 8 ≡ base + 4 * 16 - (base + 4 * 14) = omega arith in
-    let p : base + 55 + 1 ≡ base + 4 * 14 = omega arith in
-    ap (λ t. eqb (getD ws (base + 55) 0) 0 && t) (ap (λ (k : ℕ). zerosFrom k ws (base + 55 + 1)) n ∙ ap (λ (j : ℕ). zerosFrom (base + 4 * 16 - (base + 4 * 14)) ws j) p ∙ e)
-    ∙ sym (or-none (getD ws (base + 55) 0) r)
+last-seven ws base r e =
+    let a = getD ws (base + 57) 0 in
+    let b = getD ws (base + 58) 0 in
+    let c = getD ws (base + 59) 0 in
+    let n : 4 ≡ base + 4 * 16 - (base + 4 * 15) = omega arith in
+    let p : base + 57 + 1 ≡ base + 58 = omega arith in
+    let q : base + 58 + 1 ≡ base + 59 = omega arith in
+    let o : base + 59 + 1 ≡ base + 4 * 15 = omega arith in
+    let g : zerosFrom 4 ws (base + 59 + 1) ≡ eqb r 0 = ap₂ (λ (k j : ℕ). zerosFrom k ws j) n o ∙ e in
+    ap (λ (j : ℕ). eqb a 0 && zerosFrom 6 ws j) p ∙ ap (λ (j : ℕ). eqb a 0 && (eqb b 0 && zerosFrom 5 ws j)) q
+    ∙ ap (λ (t : Bool). eqb a 0 && (eqb b 0 && (eqb c 0 && t))) g
+    ∙ sym (or-none (bitOr (bitOr a b) c) r ∙ ap (λ (t : Bool). t && eqb r 0) (or-none (bitOr a b) c ∙ ap (λ (t : Bool). t && eqb c 0) (or-none a b))
+    ∙ and-assoc (eqb a 0 && eqb b 0) (eqb c 0) (eqb r 0) ∙ and-assoc (eqb a 0) (eqb b 0) (eqb c 0 && eqb r 0))

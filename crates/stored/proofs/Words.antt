@@ -2,25 +2,31 @@
 -- are a rule show.
 use Prim.Native.Nat.{ℕ, zero, suc, _+_, _-_, _*_, _/_, _%_, _^_, _≤_, _<_}
 use mathlib.Core.Path.{_≡_, refl, sym, ap, ap₂, _∙_}
-use mathlib.Core.List.{List, [], _∷_, _++_}
+use mathlib.Core.List.{List, [], _∷_, _++_, append-assoc}
 use mathlib.Core.Bool.{Bool, true, false, _&&_}
 use mathlib.Core.Logic.{⊎-elim}
 use native.Mathlib.Numerals.{add-one}
 use native.Mathlib.Omega.{arith}
-use lib.ListN.{length, getD, set, replicate, length-replicate}
+use lib.ListN.{length, getD, set, replicate, length-append, length-replicate}
 use lib.Seq.{sets}
+use lib.Bits.{bitOr}
 use lib.Dec.{eqb, leb, ltb}
 use borrow.Author.Tests.{eq-eqb, ne-eqb, lt-ltb, le-ltb, ltb-true, le-leb, lt-leb, leb-true}
 use Rattle.ground.proofs.Cases.{both, lt-or-le}
 use Rattle.ground.specs.Answers.{accepts, refuses}
 use Rattle.ground.specs.Picks.{pick}
-use Rattle.ground.proofs.Overlays.{sets-append}
+use Rattle.ground.proofs.Overlays.{sets-append, sets-again}
+use Rattle.rules.specs.declared.Distinguisher.{Distinguisher}
+use Rattle.rules.specs.declared.Distinguisher.the-variants.{Absent, Is}
 use Rattle.rules.specs.declared.NetworkPrefix.{NetworkPrefix}
 use Rattle.rules.specs.declared.NetworkPrefix.the-variants.{Ipv4}
+use Rattle.stored.proofs.Distinguishers.{test-absent}
+use Rattle.stored.proofs.Scans.{none-of, or-none}
 use Rattle.stored.specs.declared.Quad.{Quad}
 use Rattle.stored.specs.declared.Piece.{Piece}
 use Rattle.stored.specs.declared.Piece.the-variants.{Prefix, Operators, NoRecord}
 use Rattle.stored.specs.Pieces.{quad, quadOf, prefixQuad, networkOf, named, sameQuad, isPiece, pieceOf, quadAt, pieceAt, isRecord}
+use Rattle.stored.specs.Distinguishers.{isDistinguisher, distinguishedWith}
 use Rattle.stored.specs.Stored.{Head, head, allWords, tailWords, ruleWords, countAt, familyAt, headAt, piecesFrom, recordsFrom, zerosFrom, isFramed, isRule, storedAt, ruleAt}
 
 by-second : (a b c : Bool) (p : Piece) → b ≡ false → pick (a && (b && c)) p NoRecord ≡ NoRecord
@@ -145,7 +151,7 @@ length-all (p ∷ ps) = let h = length-all ps in omega arith
 -- the stores of a rule are one
 pub tail-whole : (l₀ l₁ l₂ l₃ : List ℕ) (base n family first : ℕ) → n ≤ 13 → l₁ ≡ sets l₀ (base + 4 * n) (replicate (base + 52 - (base + 4 * n)) 0)
     → l₂ ≡ sets l₁ (base + 52) (n ∷ family ∷ first ∷ 0 ∷ []) → l₃ ≡ sets l₂ (base + 56) (replicate (base + 64 - (base + 56)) 0)
-    → l₃ ≡ sets l₀ (base + 4 * n) (tailWords n (head family first))
+    → l₃ ≡ sets l₀ (base + 4 * n) (tailWords n (head family first Absent))
 unfolding tailWords
 tail-whole l₀ l₁ l₂ l₃ base n family first h e f g =
     let z : List ℕ = replicate (52 - 4 * n) 0 in
@@ -170,6 +176,25 @@ rule-whole l₀ l₁ l₂ base n h ps m e f =
     ∙ sym (sets-append l₀ base (allWords ps) (tailWords n h))
     ∙ ap (λ (j : ℕ). sets l₀ base (allWords ps ++ tailWords j h)) (sym m)
 
+-- a distinguisher put over a rule without one
+pub rule-distinguished : (ws : List ℕ) (base family first : ℕ) (ps : List Piece) → length ps ≤ 13 → (d : Distinguisher)
+    → distinguishedWith d (sets ws base (ruleWords ps (head family first Absent))) base ≡ sets ws base (ruleWords ps (head family first d))
+unfolding ruleWords tailWords
+rule-distinguished ws base family first ps few Absent = refl
+rule-distinguished ws base family first ps few (Is n) =
+    let z : List ℕ = replicate (52 - 4 * length ps) 0 in
+    let y : length z ≡ 52 - 4 * length ps = length-replicate (52 - 4 * length ps) _ in
+    let t : List ℕ = length ps ∷ family ∷ first ∷ [] in
+    let l : List ℕ = allWords ps ++ (z ++ t) in
+    let k : length l ≡ 55 = length-append (allWords ps) (z ++ t) ∙ ap₂ _+_ (length-all ps) (length-append z t) ∙ omega arith in
+    let split : (x : List ℕ) → allWords ps ++ (z ++ (t ++ x)) ≡ l ++ x = λ x.
+    ap (λ (a : List ℕ). allWords ps ++ a) (sym (append-assoc z t x)) ∙ sym (append-assoc (allWords ps) (z ++ t) x) in
+    let there : (x : List ℕ) → sets ws base (allWords ps ++ (z ++ (t ++ x))) ≡ sets (sets ws base l) (base + 55) x = λ x.
+    ap (sets ws base) (split x) ∙ sets-append ws base l x ∙ ap (λ (j : ℕ). sets (sets ws base l) (base + j) x) k in
+    ap (λ (a : List ℕ). sets a (base + 55) (1 ∷ n ∷ [])) (there (0 ∷ 0 ∷ replicate 7 0))
+    ∙ sets-again (sets ws base l) (0 ∷ 0 ∷ []) (1 ∷ n ∷ []) (replicate 7 0) (base + 55) refl
+    ∙ sym (there (1 ∷ n ∷ replicate 7 0))
+
 -- the ways that `rule_at` goes
 module _ (ws : List ℕ) (place : ℕ) where
   pub at-outside : length ws / 64 ≤ place → ruleAt ws place ≡ refuses 10 []
@@ -187,9 +212,42 @@ module _ (ws : List ℕ) (place : ℕ) where
 
 -- ---- what is tested of a rule's words, and what they show
 module _ (ws : List ℕ) (at : ℕ) where
-  pub frame-by : countAt ws at ≤ 13 → familyAt ws at ≤ 255 → isFramed ws at ≡ (zerosFrom (52 - 4 * countAt ws at) ws (at + 4 * countAt ws at) && zerosFrom 9 ws (at + 55))
+  frame-by : countAt ws at ≤ 13 → familyAt ws at ≤ 255
+      → isFramed ws at ≡ (isDistinguisher ws at && (zerosFrom (52 - 4 * countAt ws at) ws (at + 4 * countAt ws at) && zerosFrom 7 ws (at + 57)))
   unfolding isFramed
   frame-by h k = let l : familyAt ws at < 256 = omega arith in rw (le-leb (countAt ws at) 13 h, lt-ltb (familyAt ws at) 256 l)
+
+  unused : (n : ℕ) → zerosFrom (at + 52 - (at + 4 * n)) ws (at + 4 * n) ≡ zerosFrom (52 - 4 * n) ws (at + 4 * n)
+  unused n = let e : at + 52 - (at + 4 * n) ≡ 52 - 4 * n = omega arith in ap (λ (j : ℕ). zerosFrom j ws (at + 4 * n)) e
+
+  -- by the bits of all words that nothing stands in
+  pub frame-joined : countAt ws at ≤ 13 → familyAt ws at ≤ 255 → (a b : ℕ)
+      → zerosFrom (at + 52 - (at + 4 * countAt ws at)) ws (at + 4 * countAt ws at) ≡ eqb a 0 → zerosFrom 7 ws (at + 57) ≡ eqb b 0
+      → isFramed ws at ≡ (isDistinguisher ws at && eqb (bitOr a b) 0)
+  frame-joined h k a b e f =
+      frame-by h k ∙ ap₂ (λ (x y : Bool). isDistinguisher ws at && (x && y)) (sym (unused (countAt ws at)) ∙ e) f ∙ ap (λ (x : Bool). isDistinguisher ws at && x) (sym (or-none a b))
+
+  -- the ways that it goes: all of them are 0, one is not, or the words of a distinguisher decide
+  module _ (sum : ℕ) (is : isFramed ws at ≡ (isDistinguisher ws at && eqb sum 0)) where
+    pub frame-absent : bitOr (bitOr sum (getD ws (at + 55) 0)) (getD ws (at + 56) 0) ≡ 0 → true ≡ isFramed ws at
+    frame-absent h =
+        let a = none-of (bitOr sum (getD ws (at + 55) 0)) (getD ws (at + 56) 0) h in
+        let b = none-of sum (getD ws (at + 55) 0) (a .0) in
+        sym (is ∙ rw (eq-eqb sum 0 (b .0), sym (test-absent ws at (b .1)), eq-eqb (getD ws (at + 56) 0) 0 (a .1)))
+
+    pub frame-filled : (sum ≡ 0 → ⊥) → false ≡ isFramed ws at
+    frame-filled h = sym (is ∙ rw (ne-eqb sum 0 h) (and-false (isDistinguisher ws at)))
+      where
+        and-false : (b : Bool) → (b && false) ≡ false
+        and-false true = refl
+        and-false false = refl
+
+    pub frame-told : sum ≡ 0 → isDistinguisher ws at ≡ isFramed ws at
+    frame-told h = sym (is ∙ rw (eq-eqb sum 0 h) (and-true (isDistinguisher ws at)))
+      where
+        and-true : (b : Bool) → (b && true) ≡ b
+        and-true true = refl
+        and-true false = refl
 
   pub many : 13 < countAt ws at → isFramed ws at ≡ false
   unfolding isFramed
@@ -199,22 +257,21 @@ module _ (ws : List ℕ) (at : ℕ) where
   unfolding isFramed
   no-family h k = let l : 256 ≤ familyAt ws at = omega arith in rw (le-leb (countAt ws at) 13 h, le-ltb (familyAt ws at) 256 l)
 
-  pub unused : (n : ℕ) → zerosFrom (at + 52 - (at + 4 * n)) ws (at + 4 * n) ≡ zerosFrom (52 - 4 * n) ws (at + 4 * n)
-  unused n = let e : at + 52 - (at + 4 * n) ≡ 52 - 4 * n = omega arith in ap (λ (j : ℕ). zerosFrom j ws (at + 4 * n)) e
-
   pub record Framed : Type 0 where
     pub few : countAt ws at ≤ 13
     pub family : familyAt ws at < 256
+    pub distinguisher : isDistinguisher ws at ≡ true
     pub unused : zerosFrom (52 - 4 * countAt ws at) ws (at + 4 * countAt ws at) ≡ true
-    pub last : zerosFrom 9 ws (at + 55) ≡ true
+    pub last : zerosFrom 7 ws (at + 57) ≡ true
 
   pub framed : isFramed ws at ≡ true → Framed
   unfolding isFramed
   framed e =
       let a = both (leb (countAt ws at) 13) _ e in
       let b = both (ltb (familyAt ws at) 256) _ (a .1) in
-      let c = both (zerosFrom (52 - 4 * countAt ws at) ws (at + 4 * countAt ws at)) _ (b .1) in
-      record { few = leb-true (countAt ws at) 13 (a .0); family = ltb-true (familyAt ws at) 256 (b .0); unused = c .0; last = c .1 }
+      let c = both (isDistinguisher ws at) _ (b .1) in
+      let d = both (zerosFrom (52 - 4 * countAt ws at) ws (at + 4 * countAt ws at)) _ (c .1) in
+      record { few = leb-true (countAt ws at) 13 (a .0); family = ltb-true (familyAt ws at) 256 (b .0); distinguisher = c .0; unused = d .0; last = d .1 }
 
   -- a rule is framed, and each of its places is a piece
   pub rule-framed : isRule ws at ≡ true → isFramed ws at ≡ true

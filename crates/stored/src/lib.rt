@@ -10,7 +10,9 @@ ghost use lib.ListN.{length, replicate};
 ghost use lib.Seq.{sets};
 ghost use Rattle.stored.specs.Pieces.{prefixQuad, quadOf, pieceWords, networkOf, sameQuad, quadAt, pieceOf, pieceAt, isRecord};
 ghost use Rattle.stored.specs.Views.{Shows};
+ghost use Rattle.stored.specs.Distinguishers.{sameDistinguisher, distinguisherAt, isDistinguisher, distinguishedWith};
 ghost use Rattle.stored.specs.Stored.{head, tailWords, countAt, familyAt, firstAt, recordsFrom, zerosFrom, isFramed, isRule};
+use rules::Distinguisher;
 use rules::NetworkPrefix;
 
 // A component taken apart: its type octet, with its prefix or the places of its operators, counted from the rule's first. Eleven types of list
@@ -386,12 +388,23 @@ fn joined_unused(words: &[u64], base: usize, count: usize) -> u64
     }
 }
 
-// All bits of the last nine words.
+// All bits of the last seven words.
 fn joined_last(words: &[u64], base: usize) -> u64
     requires { ⌜ base + 64 ≤ length (now words) ⌝ }
-    ensures { λ r. ⌜ zerosFrom 9 (now (words .entry)) (base + 55) ≡ eqb r 0 ⌝ }
+    ensures { λ r. ⌜ zerosFrom 7 (now (words .entry)) (base + 57) ≡ eqb r 0 ⌝ }
 {
-    words[base + 55] | joined_groups(words, base, 14, 16)
+    words[base + 57] | words[base + 58] | words[base + 59] | joined_groups(words, base, 15, 16)
+}
+
+// Whether the words of a distinguisher are those of one, or of none: absent is 0 in both.
+fn is_distinguisher(words: &[u64], base: usize) -> bool
+    requires { ⌜ base + 64 ≤ length (now words) ⌝ }
+    ensures { λ r. ⌜ r ≡ isDistinguisher (now (words .entry)) base ⌝ }
+{
+    if words[base + 55] == 0 {
+        return words[base + 56] == 0;
+    }
+    words[base + 55] == 1
 }
 
 // How many components the 64 words from a word on count. No entry point.
@@ -418,7 +431,33 @@ pub fn first_at(words: &[u64], base: usize) -> usize
     words[base + 54] as usize
 }
 
-// Whether all but the components of the 64 words from a word on is as it shall be. A walk over the components tests those. No entry point.
+// Their distinguisher. No entry point.
+pub fn distinguisher_at(words: &[u64], base: usize) -> Distinguisher
+    requires { ⌜ base + 64 ≤ length (now words) ⌝ }
+    ensures { λ r. ⌜ r ≡ distinguisherAt (now (words .entry)) base ⌝ }
+{
+    if words[base + 55] == 0 {
+        return Distinguisher::Absent;
+    }
+    Distinguisher::Is(words[base + 56])
+}
+
+// Whether two rules have the same one, or both have none. No entry point.
+pub fn same_distinguisher(words: &[u64], base: usize, words2: &[u64], base2: usize) -> bool
+    requires { ⌜ (base + 64 ≤ length (now words)) × (base2 + 64 ≤ length (now words2)) ⌝ }
+    ensures { λ r. ⌜ r ≡ sameDistinguisher (distinguisherAt (now (words .entry)) base) (distinguisherAt (now (words2 .entry)) base2) ⌝ }
+{
+    if words[base + 55] == 0 {
+        return words2[base2 + 55] == 0;
+    }
+    if words2[base2 + 55] == 0 {
+        return false;
+    }
+    words[base + 56] == words2[base2 + 56]
+}
+
+// Whether all but the components of the 64 words from a word on is as it shall be. A walk over the components tests those. A rule without a distinguisher
+// is told by one test of all words that are 0. No entry point.
 pub fn is_framed(words: &[u64], base: usize) -> bool
     requires { ⌜ base + 64 ≤ length (now words) ⌝ }
     ensures { λ r. ⌜ r ≡ isFramed (now (words .entry)) base ⌝ }
@@ -430,7 +469,14 @@ pub fn is_framed(words: &[u64], base: usize) -> bool
     if 255 < words[base + 53] {
         return false;
     }
-    joined_unused(words, base, count) | joined_last(words, base) == 0
+    let sum = joined_unused(words, base, count) | joined_last(words, base);
+    if sum | words[base + 55] | words[base + 56] == 0 {
+        return true;
+    }
+    if sum != 0 {
+        return false;
+    }
+    is_distinguisher(words, base)
 }
 
 // Whether the 64 words from a word on are a rule. No entry point.
@@ -475,10 +521,10 @@ fn put_zeros(words: &mut [u64], from: usize, to: usize)
     }
 }
 
-// What follows so many components, to the end of the rule's 64 words. No entry point.
+// What follows so many components, to the end of the rule's 64 words, of a rule without a distinguisher. No entry point.
 pub fn put_tail(words: &mut [u64], base: usize, count: usize, family: u8, first: usize)
     requires { ⌜ (count ≤ 13) × (base + 64 ≤ length (now words)) ⌝ }
-    ensures { λ _. ⌜ now (words .exit) ≡ sets (now (words .entry)) (base + 4 * count) (tailWords count (head family first)) ⌝ }
+    ensures { λ _. ⌜ now (words .exit) ≡ sets (now (words .entry)) (base + 4 * count) (tailWords count (head family first Distinguisher.Absent)) ⌝ }
 {
     put_zeros(words, base + 4 * count, base + 52);
     put_words(
@@ -490,4 +536,18 @@ pub fn put_tail(words: &mut [u64], base: usize, count: usize, family: u8, first:
         0,
     );
     put_zeros(words, base + 56, base + 64);
+}
+
+// A distinguisher to a rule that was put without one. Few rules have one, and so the others are not slowed by it. No entry point.
+pub fn put_distinguisher(words: &mut [u64], base: usize, distinguisher: Distinguisher)
+    requires { ⌜ base + 64 ≤ length (now words) ⌝ }
+    ensures { λ _. ⌜ now (words .exit) ≡ distinguishedWith distinguisher (now (words .entry)) base ⌝ }
+{
+    match distinguisher {
+        Distinguisher::Absent => {}
+        Distinguisher::Is(bits) => {
+            words[base + 55] = 1;
+            words[base + 56] = bits;
+        }
+    }
 }

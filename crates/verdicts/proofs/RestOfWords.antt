@@ -7,8 +7,12 @@ use native.Mathlib.Omega.{arith}
 use lib.Dec.{eqb, leb, ltb}
 use lib.ListN.{getD, drop}
 use lib.Seq.{getD-drop}
+use Rattle.ground.specs.Picks.{pick}
+use Rattle.rules.specs.declared.Distinguisher.{Distinguisher}
+use Rattle.rules.specs.declared.Distinguisher.the-variants.{Absent, Is}
 use Rattle.stored.specs.declared.Piece.{Piece}
 use Rattle.stored.specs.Pieces.{isRecord, pieceOf, pieceAt}
+use Rattle.stored.specs.Distinguishers.{presenceWord, bitsWord, distinguisherAt, isDistinguisher}
 use Rattle.stored.specs.Stored.{storedRule, countAt, familyAt, firstAt, headAt, head, piecesFrom, recordsFrom, zerosFrom, isFramed, isRule, storedAt}
 
 module _ (at : ℕ) (ws : List ℕ) where
@@ -55,21 +59,32 @@ module _ (at : ℕ) (ws : List ℕ) where
   pub family-rest : familyAt rest 0 ≡ familyAt ws at
   family-rest = front 53
 
+  pub distinguisher-rest : distinguisherAt rest 0 ≡ distinguisherAt ws at
+  unfolding distinguisherAt
+  distinguisher-rest = ap₂ (λ (x y : ℕ). pick (eqb x 0) Absent (Is y)) (front 55) (front 56)
+
+  tested-rest : isDistinguisher rest 0 ≡ isDistinguisher ws at
+  unfolding isDistinguisher
+  tested-rest =
+      ap₂ (λ (x y : ℕ). eqb x (presenceWord (distinguisherAt rest 0)) && eqb y (bitsWord (distinguisherAt rest 0))) (front 55) (front 56)
+      ∙ ap (λ (d : Distinguisher). eqb (getD ws (at + 55) 0) (presenceWord d) && eqb (getD ws (at + 56) 0) (bitsWord d)) distinguisher-rest
+
   pub stored-rest : storedAt rest 0 ≡ storedAt ws at
   stored-rest =
       let n = countAt ws at in
       ap (λ (k : ℕ). storedRule (piecesFrom k rest 0) (headAt rest 0)) count-rest
       ∙ ap (λ (ps : List Piece). storedRule ps (headAt rest 0)) (pieces n 0 ∙ ap (piecesFrom n ws) base)
-      ∙ ap₂ (λ (f g : ℕ). storedRule (piecesFrom n ws at) (head f g)) family-rest first-rest
+      ∙ ap₂ (λ (f g : ℕ). storedRule (piecesFrom n ws at) (head f g (distinguisherAt rest 0))) family-rest first-rest
+      ∙ ap (λ (d : Distinguisher). storedRule (piecesFrom n ws at) (head (familyAt ws at) (firstAt ws at) d)) distinguisher-rest
 
   pub framed-rest : isFramed rest 0 ≡ isFramed ws at
   unfolding isFramed
   framed-rest =
       let n = countAt ws at in
       let u : at + (0 + 4 * n) ≡ at + 4 * n = omega arith in
-      ap (λ (k : ℕ). leb k 13 && (ltb (familyAt rest 0) 256 && (zerosFrom (52 - 4 * k) rest (0 + 4 * k) && zerosFrom 9 rest (0 + 55)))) count-rest
-      ∙ ap₂ (λ (f : ℕ) (b : Bool). leb n 13 && (ltb f 256 && (b && zerosFrom 9 rest (0 + 55)))) family-rest (zeros (52 - 4 * n) (0 + 4 * n) ∙ ap (zerosFrom (52 - 4 * n) ws) u)
-      ∙ ap (λ (b : Bool). leb n 13 && (ltb (familyAt ws at) 256 && (zerosFrom (52 - 4 * n) ws (at + 4 * n) && b))) (zeros 9 (0 + 55))
+      ap (λ (k : ℕ). leb k 13 && (ltb (familyAt rest 0) 256 && (isDistinguisher rest 0 && (zerosFrom (52 - 4 * k) rest (0 + 4 * k) && zerosFrom 7 rest (0 + 57))))) count-rest
+      ∙ ap₂ (λ (f : ℕ) (b : Bool). leb n 13 && (ltb f 256 && (b && (zerosFrom (52 - 4 * n) rest (0 + 4 * n) && zerosFrom 7 rest (0 + 57))))) family-rest tested-rest
+      ∙ ap₂ (λ (a b : Bool). leb n 13 && (ltb (familyAt ws at) 256 && (isDistinguisher ws at && (a && b)))) (zeros (52 - 4 * n) (0 + 4 * n) ∙ ap (zerosFrom (52 - 4 * n) ws) u) (zeros 7 (0 + 57))
 
   pub rule-rest : isRule rest 0 ≡ isRule ws at
   unfolding isRule

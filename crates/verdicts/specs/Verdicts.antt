@@ -8,6 +8,7 @@ use lib.Dec.{eqb}
 use Rattle.ground.specs.Answers.{Answer, accepts, refuses, declines}
 use Rattle.ground.specs.Picks.{pick}
 use Rattle.refusals.specs.Refusals.{refusal}
+use Rattle.stored.specs.Distinguishers.{sameDistinguisher}
 use Rattle.stored.specs.Stored.{familyAt, storedAt}
 use Rattle.packets.specs.Packets.{Packet, packetOk}
 use Rattle.matching.specs.Rules.{ruleMatches}
@@ -49,13 +50,14 @@ matchVerdict words values octets p =
     (accepts (ruleMatches values octets p (storedAt words 0)))))
 
 -- what the rule at the front of the first words is to the one at the front of the second: 10 of either; of two families, 14 at place 1, the
--- second rule's
+-- second rule's; of two distinguishers, 20 at place 1
 unfoldable pub rankVerdict : List ℕ → List ℕ → List ℕ → List ℕ → List ℕ → List ℕ → Answer Order
 rankVerdict words values octets words2 values2 octets2 =
     pick (not (wellFormed words values octets 0)) (refuses 10 [])
     (pick (not (wellFormed words2 values2 octets2 0)) (refuses 10 [])
     (pick (not (eqb (storedAt words 0 .head .family) (storedAt words2 0 .head .family))) (refuses 14 (1 ∷ []))
-    (accepts (rankOf values octets (storedAt words 0) values2 octets2 (storedAt words2 0)))))
+    (pick (not (sameDistinguisher (storedAt words2 0 .head .distinguisher) (storedAt words 0 .head .distinguisher))) (refuses 20 (1 ∷ []))
+    (accepts (rankOf values octets (storedAt words 0) values2 octets2 (storedAt words2 0))))))
 
 -- the answers as they are told
 abbrev pub toldMatched : Matched → Answer Bool

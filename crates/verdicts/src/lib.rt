@@ -20,6 +20,7 @@ use choices::Standard;
 use ranking::Order;
 use refusals::Fault;
 use refusals::FlowSpecError;
+use refusals::OuterError;
 use refusals::Place;
 use rules::NetworkPrefix;
 use stored::Piece;
@@ -385,11 +386,13 @@ fn judge_in(
         met = s.met;
         i += 1;
     }
-    if 4095 < body {
-        return Judged {
-            formed: false,
-            met: false,
-        };
+    if 4087 < body {
+        if 4095 < body + measuring::front_size(writing, words, base) {
+            return Judged {
+                formed: false,
+                met: false,
+            };
+        }
     }
     Judged {
         formed: true,
@@ -494,6 +497,12 @@ pub fn rank(
     if stored::family_at(words, 0) != stored::family_at(words2, 0) {
         return Ranked::Refused(Fault {
             error: FlowSpecError::MixedFamily(1),
+            place: Place::Nowhere,
+        });
+    }
+    if !stored::same_distinguisher(words2, 0, words, 0) {
+        return Ranked::Refused(Fault {
+            error: FlowSpecError::Outer(OuterError::MixedDistinguisher(1)),
             place: Place::Nowhere,
         });
     }

@@ -17,11 +17,12 @@ use Rattle.octets.specs.Lengths.{lengthOctets}
 use Rattle.choices.specs.declared.Reading.{Reading}
 use Rattle.choices.specs.declared.Reading.the-variants.{Ipv4, Ipv6}
 use Rattle.choices.specs.Choices.{standardOf}
+use Rattle.rules.specs.declared.Distinguisher.{Distinguisher}
 use Rattle.stored.specs.declared.Piece.{Piece}
 use Rattle.stored.specs.Stored.{Head, StoredRule, storedRule, ruleWords, isRule, storedAt, ruleAt}
 use Rattle.stored.proofs.Words.{at-outside, at-bad, at-good}
 use Rattle.stored.proofs.Inverse.{FitAll, put-read}
-use Rattle.measuring.specs.Bodies.{Lent, lent, bodyOctets}
+use Rattle.measuring.specs.Bodies.{Lent, lent, wholeOctets}
 use Rattle.measuring.specs.Grounds.{bodyTaken, bodyOf}
 use Rattle.measuring.proofs.Laws.{Taken, body-needs}
 use Rattle.writing.specs.Writings.{accepted, refusesRule, onAccepted, ruleBody, bodyFrom, bodyIn, nlriOctets, inRoom, writtenRule, writtenFrom, writtenIn}
@@ -136,21 +137,22 @@ module _ (w : Reading) (ws values octets : List ℕ) (s : StoredRule) (e : ruleA
   unfolding writtenFrom writtenRule
   written-as room = ap (λ a. onAccepted a (inRoom room)) body-as
 
-  pub writes : Taken w (lent values octets (s .head .first)) (s .pieces) → (room : ℕ)
-      → length (nlriOctets (bodyOctets w (lent values octets (s .head .first)) (s .pieces))) ≤ room
-      → writtenFrom w ws values octets room ≡ accepts (nlriOctets (bodyOctets w (lent values octets (s .head .first)) (s .pieces)))
+  pub writes : Taken w (lent values octets (s .head .first)) (s .head .distinguisher) (s .pieces) → (room : ℕ)
+      → length (nlriOctets (wholeOctets w (lent values octets (s .head .first)) (s .head .distinguisher) (s .pieces))) ≤ room
+      → writtenFrom w ws values octets room ≡ accepts (nlriOctets (wholeOctets w (lent values octets (s .head .first)) (s .head .distinguisher) (s .pieces)))
   writes t room h =
       let l = lent values octets (s .head .first) in
-      written-whole w ws values octets room (bodyOctets w l (s .pieces)) (body-as ∙ body-needs w l (s .pieces) t) h
+      let d = s .head .distinguisher in
+      written-whole w ws values octets room (wholeOctets w l d (s .pieces)) (body-as ∙ body-needs w l (s .pieces) d t) h
 
 -- ---- in any room
 
 -- a body is refused by one of these or not at all
-own-body : (w : Reading) (l : Lent) (ps : List Piece) → refusesRule (bodyOf w l ps) ≡ not (accepted (bodyOf w l ps))
+own-body : (w : Reading) (l : Lent) (d : Distinguisher) (ps : List Piece) → refusesRule (bodyOf w l d ps) ≡ not (accepted (bodyOf w l d ps))
 unfolding bodyOf
-own-body w l ps =
+own-body w l d ps =
     by-test (bodyTaken w l ps)
-    (λ e. by-test (ltb 4095 (length (bodyOctets w l ps))) (λ m. rw (e, m)) (λ m. rw (e, m)))
+    (λ e. by-test (ltb 4095 (length (wholeOctets w l d ps))) (λ m. rw (e, m)) (λ m. rw (e, m)))
     (λ e. rw e)
 
 own-from : (w : Reading) (ws values octets : List ℕ) → refusesRule (bodyFrom w ws values octets) ≡ not (accepted (bodyFrom w ws values octets))
@@ -158,7 +160,7 @@ unfolding bodyFrom
 own-from w ws values octets =
     ⊎-elim
     (λ h. by-test (isRule ws 0)
-    (λ r. rw (at-good ws 0 h r) (own-body w (lent values octets (storedAt ws 0 .head .first)) (storedAt ws 0 .pieces)))
+    (λ r. rw (at-good ws 0 h r) (own-body w (lent values octets (storedAt ws 0 .head .first)) (storedAt ws 0 .head .distinguisher) (storedAt ws 0 .pieces)))
     (λ r. rw (at-bad ws 0 h r)))
     (λ h. rw (at-outside ws 0 h))
     (lt-or-le 0 (length ws / 64))

@@ -16,10 +16,11 @@ use Rattle.ground.proofs.Overlays.{sets-append}
 use Rattle.octets.specs.Lengths.{lengthOctets, lengthInto}
 use Rattle.choices.specs.declared.Reading.{Reading}
 use Rattle.choices.specs.Choices.{standardOf}
+use Rattle.stored.specs.Distinguishers.{distinguisherAt}
 use Rattle.stored.specs.Stored.{StoredRule, countAt, firstAt, piecesFrom, recordsFrom, isFramed, isRule, ruleAt}
 use Rattle.stored.proofs.Words.{at-outside, at-bad, at-good, framed, rule-framed, by-records, no-frame as unframed}
 use Rattle.stored.proofs.Inverse.{accepted}
-use Rattle.measuring.specs.Bodies.{lent, bodyOctets}
+use Rattle.measuring.specs.Bodies.{lent, distinguisherOctets, bodyOctets, wholeOctets}
 use Rattle.measuring.specs.Grounds.{allTaken, bodyOf, counted}
 use Rattle.measuring.proofs.Laws.{Taken, all-records, body-shows, body-bad}
 use Rattle.writing.specs.Writings.{octetsIn, onAccepted, ruleBody, bodyFrom, bodyIn, nlriOctets, inRoom, writtenFrom, writtenIn}
@@ -42,7 +43,7 @@ module _ (w : Reading) (ws values octets : List ℕ) where
     no-frame e = by-rule (at-bad ws 0 there (unframed ws 0 e))
 
     -- four words that are no component are taken by no writing
-    pub by-frame : isFramed ws 0 ≡ true → bodyFrom w ws values octets ≡ bodyOf w (lent values octets (firstAt ws 0)) (piecesFrom (countAt ws 0) ws 0)
+    pub by-frame : isFramed ws 0 ≡ true → bodyFrom w ws values octets ≡ bodyOf w (lent values octets (firstAt ws 0)) (distinguisherAt ws 0) (piecesFrom (countAt ws 0) ws 0)
     by-frame e =
         let l = lent values octets (firstAt ws 0) in
         let ps = piecesFrom (countAt ws 0) ws 0 in
@@ -51,15 +52,15 @@ module _ (w : Reading) (ws values octets : List ℕ) where
         (λ r. by-rule (at-bad ws 0 there (by-records ws 0 e ∙ r))
         ∙ sym (by-test (allTaken w l ps)
         (λ t. let z : _≡_ {A = ℕ} 0 1 = cc (sym r ∙ all-records w l (countAt ws 0) ws 0 t) in absurd (omega arith))
-        (λ t. body-bad w l ps t)))
+        (λ t. body-bad w l ps (distinguisherAt ws 0) t)))
 
 -- what a rule that has a body shows
 pub record Shown (w : Reading) (ws values octets xs : List ℕ) : Type 0 where
   pub whole : 64 ≤ length ws
   pub rule : isRule ws 0 ≡ true
   pub few : countAt ws 0 ≤ 13
-  pub taken : Taken w (lent values octets (firstAt ws 0)) (piecesFrom (countAt ws 0) ws 0)
-  pub is : xs ≡ bodyOctets w (lent values octets (firstAt ws 0)) (piecesFrom (countAt ws 0) ws 0)
+  pub taken : Taken w (lent values octets (firstAt ws 0)) (distinguisherAt ws 0) (piecesFrom (countAt ws 0) ws 0)
+  pub is : xs ≡ wholeOctets w (lent values octets (firstAt ws 0)) (distinguisherAt ws 0) (piecesFrom (countAt ws 0) ws 0)
 
 module _ (w : Reading) (ws values octets xs : List ℕ) where
   shown-by : (a : Answer StoredRule) → ruleAt ws 0 ≡ a → onAccepted a (λ s. ruleBody w s values octets) ≡ accepts xs → Shown w ws values octets xs
@@ -68,7 +69,7 @@ module _ (w : Reading) (ws values octets xs : List ℕ) where
       let a = accepted ws 0 s r in
       let h = a .0 in
       let f = framed ws 0 (rule-framed ws 0 (a .1)) in
-      let b = body-shows w (lent values octets (firstAt ws 0)) (piecesFrom (countAt ws 0) ws 0) xs (ap (λ x. ruleBody w x values octets) (sym (a .2)) ∙ e) in
+      let b = body-shows w (lent values octets (firstAt ws 0)) (piecesFrom (countAt ws 0) ws 0) (distinguisherAt ws 0) xs (ap (λ x. ruleBody w x values octets) (sym (a .2)) ∙ e) in
       record { whole = omega arith; rule = a .1; few = f .few; taken = b .0; is = b .1 }
 
   pub shown : bodyFrom w ws values octets ≡ accepts xs → Shown w ws values octets xs
@@ -149,13 +150,22 @@ module _ (w : Reading) (ws values octets : List ℕ) (n : ℕ) (told : accepts n
   pub measured-most : n ≤ 4095
   measured-most =
       let s = measured-shows in
-      let e : length (octetsIn (bodyFrom w ws values octets)) ≡ length (bodyOctets w (lent values octets (firstAt ws 0)) (piecesFrom (countAt ws 0) ws 0)) = ap length (s .is) in
+      let e : length (octetsIn (bodyFrom w ws values octets)) ≡ length (wholeOctets w (lent values octets (firstAt ws 0)) (distinguisherAt ws 0) (piecesFrom (countAt ws 0) ws 0)) = ap length (s .is) in
       omega (arith, measured-long, s .taken .most)
 
-  -- what the walk that stores asks, and the output after it
+  abbrev front : List ℕ
+  front = distinguisherOctets w (distinguisherAt ws 0)
+
+  -- what the distinguisher and the walk that stores ask, and the output after them
   module _ {k m at : ℕ} (is-k : k ≡ countAt ws 0) (is-m : m ≡ firstAt ws 0) (is-at : at ≡ length (lengthOctets n)) where
-    is-body : octetsIn (bodyFrom w ws values octets) ≡ bodyOctets w (lent values octets m) (piecesFrom k ws 0)
+    abbrev behind : List ℕ
+    behind = bodyOctets w (lent values octets m) (piecesFrom k ws 0)
+
+    is-body : octetsIn (bodyFrom w ws values octets) ≡ front ++ behind
     is-body = measured-shows .is ∙ rw (is-k, is-m)
+
+    long-body : length front + length behind ≡ n
+    long-body = sym (ap length is-body ∙ length-append front behind) ∙ measured-long
 
     pub put-words : 4 * k ≤ length ws
     put-words = let s = measured-shows in omega (arith, s .few, s .whole)
@@ -163,15 +173,18 @@ module _ (w : Reading) (ws values octets : List ℕ) (n : ℕ) (told : accepts n
     pub put-taken : allTaken w (lent values octets m) (piecesFrom k ws 0) ≡ true
     put-taken = rw (is-k, is-m) (measured-shows .taken .each)
 
-    pub put-room : (out : List ℕ) → length (lengthOctets n) + n ≤ length out → at + length (bodyOctets w (lent values octets m) (piecesFrom k ws 0)) ≤ length out
-    put-room out r =
-        let e : length (octetsIn (bodyFrom w ws values octets)) ≡ length (bodyOctets w (lent values octets m) (piecesFrom k ws 0)) = ap length is-body in
-        omega (arith, measured-long)
+    pub front-room : (out : List ℕ) → length (lengthOctets n) + n ≤ length out → at + length front ≤ length out
+    front-room out r = omega (arith, long-body)
 
-    pub put-done : (out : List ℕ) → length (lengthOctets n) + n ≤ length out → {o₁ o₂ : List ℕ} → o₁ ≡ sets out 0 (lengthInto n (length out))
-        → o₂ ≡ sets o₁ at (bodyOctets w (lent values octets m) (piecesFrom k ws 0)) → o₂ ≡ sets out 0 (nlriOctets (octetsIn (bodyFrom w ws values octets)))
-    put-done out r {o₁} f g =
-        nlri-stored out (octetsIn (bodyFrom w ws values octets)) n measured-long measured-most r is-at f (g ∙ ap (λ (xs : List ℕ). sets o₁ at xs) (sym is-body))
+    module _ {from : ℕ} (is-from : from ≡ at + length front) where
+      pub put-room : (out : List ℕ) → length (lengthOctets n) + n ≤ length out → from + length behind ≤ length out
+      put-room out r = omega (arith, long-body)
+
+      pub put-done : (out : List ℕ) → length (lengthOctets n) + n ≤ length out → {o₁ o₂ o₃ : List ℕ} → o₁ ≡ sets out 0 (lengthInto n (length out)) → o₂ ≡ sets o₁ at front
+          → o₃ ≡ sets o₂ from behind → o₃ ≡ sets out 0 (nlriOctets (octetsIn (bodyFrom w ws values octets)))
+      put-done out r {o₁} f g h =
+          nlri-stored out (octetsIn (bodyFrom w ws values octets)) n measured-long measured-most r is-at f
+          (h ∙ ap₂ (λ (xs : List ℕ) (j : ℕ). sets xs j behind) g is-from ∙ sym (sets-append o₁ at front behind) ∙ ap (λ (xs : List ℕ). sets o₁ at xs) (sym is-body))
 
 -- ---- the standard writing, by its family
 module _ (family : ℕ) (ws values octets : List ℕ) where

@@ -46,9 +46,9 @@ onAccepted (declines g) f = declines g
 
 -- ---- the body: "Writing: 11, 10, 7"
 
--- a rule's own family is not looked at, since a writing is told its family by the call
+-- a rule's own family is not looked at, since a writing is told its family by the call; its distinguisher is, by a standard writing
 abbrev pub ruleBody : Reading → StoredRule → List ℕ → List ℕ → Answer (List ℕ)
-ruleBody w s values octets = bodyOf w (lent values octets (s .head .first)) (s .pieces)
+ruleBody w s values octets = bodyOf w (lent values octets (s .head .first)) (s .head .distinguisher) (s .pieces)
 
 -- of the rule that stands at the front of lent words: words that are no rule are BadRecord
 unfoldable pub bodyFrom : Reading → List ℕ → List ℕ → List ℕ → Answer (List ℕ)

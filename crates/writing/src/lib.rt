@@ -16,9 +16,10 @@ ghost use Rattle.operators.specs.Ops.{kindOf, listOctets};
 ghost use Rattle.prefixes.specs.Prefixes.{octetsOf};
 ghost use Rattle.prefixwriting.specs.Writings.{frontOctets};
 ghost use Rattle.stored.specs.Pieces.{pieceAt};
+ghost use Rattle.stored.specs.Distinguishers.{distinguisherAt};
 ghost use Rattle.stored.specs.Stored.{piecesFrom};
 ghost use Rattle.listwriting.specs.Lists.{sizeIn};
-ghost use Rattle.measuring.specs.Bodies.{lent, opsOf, prefixOctets, pieceOctets, bodyOctets};
+ghost use Rattle.measuring.specs.Bodies.{lent, opsOf, prefixOctets, pieceOctets, bodyOctets, distinguisherOctets};
 ghost use Rattle.measuring.specs.Grounds.{insideOf, prefixTaken, pieceTaken, allTaken, toldMeasured};
 ghost use Rattle.writing.specs.Writings.{toldWritten, counted, octetsIn, nlriOctets, bodyFrom, writtenFrom, writtenIn};
 use choices::Reading;
@@ -27,6 +28,7 @@ use measuring::Measured;
 use refusals::Fault;
 use refusals::FlowSpecError;
 use refusals::Place;
+use rules::Distinguisher;
 use rules::NetworkPrefix;
 use stored::Piece;
 
@@ -168,6 +170,22 @@ fn put_body(
     }
 }
 
+// The distinguisher that the writing takes, where there is room, and the place after it.
+fn put_front(writing: Reading, words: &[u64], out: &mut [u8], at: usize) -> usize
+    requires words { ⌜ 64 ≤ length (now words) ⌝ }
+    requires room { ⌜ at + length (distinguisherOctets writing (distinguisherAt (now words) 0)) ≤ length (now out) ⌝ }
+    ensures next { λ r. ⌜ r ≡ at + length (distinguisherOctets writing (distinguisherAt (now (words .entry)) 0)) ⌝ }
+    ensures octets { λ _. ⌜ now (out .exit) ≡ sets (now (out .entry)) at (distinguisherOctets writing (distinguisherAt (now (words .entry)) 0)) ⌝ }
+{
+    match measuring::front_of(writing, words, 0) {
+        Distinguisher::Absent => at,
+        Distinguisher::Is(bits) => {
+            octets::write_value(out, at, 3, bits);
+            at + 8
+        }
+    }
+}
+
 // The rule at the front of the words, measured: how many octets its body takes, or BadRecord, or ValueTooLarge. Nothing is written.
 pub fn measure(writing: Reading, words: &[u64], values: &[u64], octets: &[u8]) -> Measured
     ensures { λ r. ⌜ toldMeasured r ≡ counted (bodyFrom writing (now (words .entry)) (now (values .entry)) (now (octets .entry))) ⌝ }
@@ -224,16 +242,8 @@ pub fn put(
     octets::encode_length(body, out);
     let count = stored::count_at(words, 0);
     let first = stored::first_at(words, 0);
-    put_body(
-        writing,
-        words,
-        count,
-        first,
-        values,
-        octets,
-        out,
-        length_size(body),
-    );
+    let at = put_front(writing, words, out, length_size(body));
+    put_body(writing, words, count, first, values, octets, out, at);
 }
 
 // The rule at the front of the words, by a writing.

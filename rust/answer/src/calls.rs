@@ -1,6 +1,7 @@
 //! The calls: a request's fields go to the surface, and what comes back becomes an answer.
 
 use krubbadin::surface::{self, COUNT, FAMILY, FIRST, OPERATORS, WORDS};
+use krubbadin::surface::{DISTINGUISHED, DISTINGUISHER, PLAIN, STANDARD, WITH_DISTINGUISHER};
 use krubbadin::Refusal;
 use protocol::{words, Bad, Packet, Read, Span};
 
@@ -24,6 +25,9 @@ struct Lists {
     values: Vec<u64>,
     octets: Vec<u8>,
 }
+
+/// What stands before a rule's components: its family and its distinguisher.
+type Front = (u64, Option<[u8; 8]>);
 
 /// What an answer says; a refusal may be all there is to say.
 type Said = Read<Result<(), Refusal>>;
@@ -66,25 +70,25 @@ impl Desk {
             count += 1;
         }
         match fields[..count] {
-            [b"plain_read", octets, places] => self.read(0, 0, octets, places, answer),
-            [b"std_read4", octets, places] => self.read(1, 4, octets, places, answer),
-            [b"std_read6", octets, places] => self.read(1, 6, octets, places, answer),
-            [b"std_read", family, protocol::NONE, octets, places] => {
-                self.std_read(protocol::octet_number(family)?, octets, places, answer)
+            [b"plain_read", octets, places] => self.read(PLAIN, 0, octets, places, answer),
+            [b"std_read4", octets, places] => self.read(STANDARD, 4, octets, places, answer),
+            [b"std_read6", octets, places] => self.read(STANDARD, 6, octets, places, answer),
+            [b"std_read", family, expected, octets, places] => {
+                let family = protocol::octet_number(family)?;
+                self.std_read(expecting(expected)?, family, octets, places, answer)
             }
-            [b"std_read", _, _, _, _] => Err(Bad(NO_DISTINGUISHER)),
-            [b"check", b"plain", octets] => self.check(0, 0, octets, answer),
+            [b"check", b"plain", octets] => self.check(PLAIN, 0, octets, answer),
             [b"check", family, octets] => {
                 let family = protocol::octet_number(family).map_err(|_| Bad(NO_READING))?;
-                self.check(1, family, octets, answer)
+                self.check(STANDARD, family, octets, answer)
             }
             [b"plain_place", octets] => self.plain_place(octets, answer),
             [b"plain_write", rule, values, octets, room] => {
-                self.write(0, 0, [rule, values, octets, room], answer)
+                self.write(PLAIN, 0, [rule, values, octets, room], answer)
             }
             [b"std_write", family, rule, values, octets, room] => {
                 let family = protocol::octet_number(family)?;
-                self.write(1, family, [rule, values, octets, room], answer)
+                self.write(STANDARD, family, [rule, values, octets, room], answer)
             }
             [b"match", family, octets, packet] => {
                 self.matches(protocol::octet_number(family)?, octets, packet, answer)
@@ -93,6 +97,7 @@ impl Desk {
                 self.rank(protocol::octet_number(family)?, one, two, answer)
             }
             [b"choose", packet, rules] => self.choose(packet, rules, answer),
+            [b"decide", packet, rules] => self.decide(packet, rules, answer),
             _ => Err(Bad(NO_CALL)),
         }
     }
@@ -122,13 +127,25 @@ impl Desk {
         Ok(Ok(()))
     }
 
-    fn std_read(&mut self, family: u8, octets: &[u8], places: &[u8], answer: &mut Vec<u8>) -> Said {
+    fn std_read(
+        &mut self,
+        standard: u8,
+        family: u8,
+        octets: &[u8],
+        places: &[u8],
+        answer: &mut Vec<u8>,
+    ) -> Said {
         let places = lent(protocol::number(places)?)?;
         protocol::octets(octets, &mut self.input)?;
-        match self.one.read(1, family, &self.input, (places, places)) {
+        match self
+            .one
+            .read(standard, family, &self.input, (places, places))
+        {
             Ok((used, operators)) => {
                 put_read(used, operators, answer);
-                answer.extend_from_slice(b" - ");
+                answer.push(b' ');
+                protocol::put_distinguisher(self.one.distinguisher(), answer);
+                answer.push(b' ');
                 self.one.put_rule(answer);
             }
             Err(refusal) => put_placed(refusal, answer),
@@ -146,7 +163,7 @@ impl Desk {
 
     fn plain_place(&mut self, octets: &[u8], answer: &mut Vec<u8>) -> Said {
         protocol::octets(octets, &mut self.input)?;
-        match surface::check(0, 0, &self.input).accepted() {
+        match surface::check(PLAIN, 0, &self.input).accepted() {
             Ok((used, _)) => {
                 answer.extend_from_slice(b"ok ");
                 protocol::put_number(used as u64, answer);
@@ -165,9 +182,8 @@ impl Desk {
     ) -> Said {
         let lists = &mut self.one;
         lists.words.clear();
-        lists.push_rule(rule, u64::from(family), 0, |_, content| {
-            protocol::span(content)
-        })?;
+        let front = (u64::from(family), None);
+        lists.push_rule(front, rule, 0, |_, content| protocol::span(content))?;
         protocol::values(values, &mut lists.values)?;
         protocol::octets(octets, &mut lists.octets)?;
         let room = lent(protocol::number(room)?)?;
@@ -215,32 +231,58 @@ impl Desk {
     }
 
     fn choose(&mut self, packet: &[u8], rules: &[u8], answer: &mut Vec<u8>) -> Said {
+        let chosen = self.chosen(packet, rules, |rule| {
+            let bad = Bad("a rule to choose is FAMILY=RULE");
+            let (family, rule) = protocol::cut(rule, b'=').ok_or(bad)?;
+            Ok(((protocol::number(family)?, None), rule))
+        })?;
+        Ok(chosen.map(|place| put_chosen(place, answer)))
+    }
+
+    fn decide(&mut self, packet: &[u8], rules: &[u8], answer: &mut Vec<u8>) -> Said {
+        let packet = packet
+            .strip_prefix(b"p:")
+            .ok_or(Bad("a packet to decide for is p:PACKET"))?;
+        let chosen = self.chosen(packet, rules, |rule| {
+            let bad = Bad("a rule to decide by is FAMILY!RD!RULE");
+            let (family, rest) = protocol::cut(rule, b'!').ok_or(bad)?;
+            let (distinguisher, rule) = protocol::cut(rest, b'!').ok_or(bad)?;
+            let distinguisher = protocol::distinguisher(distinguisher)?;
+            Ok(((protocol::number(family)?, distinguisher), rule))
+        })?;
+        match chosen {
+            Ok(place) => put_chosen(place, answer),
+            Err(refusal) => put_placed(refusal, answer),
+        }
+        Ok(Ok(()))
+    }
+
+    /// The place of the rule that decides; `front` gives what stands before a rule's components, and their text.
+    fn chosen<'a>(
+        &mut self,
+        packet: &[u8],
+        rules: &'a [u8],
+        front: impl Fn(&'a [u8]) -> Read<(Front, &'a [u8])>,
+    ) -> Read<Result<Option<usize>, Refusal>> {
         let packet = Packet::read(packet)?.words();
         let lists = &mut self.one;
         lists.clear();
         if rules != b"." {
             for rule in rules.split(|&byte| byte == b'&') {
-                let (family, rule) =
-                    protocol::cut(rule, b'=').ok_or(Bad("a rule to choose is FAMILY=RULE"))?;
+                let (front, rule) = front(rule)?;
                 let first = lists.values.len() as u64;
                 let list = |lists: &mut Lists, content: &[u8]| lists.push_list(first, content);
-                lists.push_rule(rule, protocol::number(family)?, first, list)?;
+                lists.push_rule(front, rule, first, list)?;
             }
         }
         let said = surface::choose(&lists.words, &lists.values, &lists.octets, &packet);
-        Ok(said.accepted().map(|(found, place)| {
-            answer.extend_from_slice(b"ok ");
-            match found {
-                0 => answer.extend_from_slice(b"none"),
-                _ => protocol::put_number(place as u64, answer),
-            }
-        }))
+        let place = |(found, place)| Some(place).filter(|_| found == 1);
+        Ok(said.accepted().map(place))
     }
 }
 
 const NO_CALL: &str = "no call has this name and this number of fields";
 const NO_READING: &str = "a check is by plain or by a family, a number up to 255";
-const NO_DISTINGUISHER: &str = "no reading expects a distinguisher, which is said by -";
 
 impl Lists {
     fn new() -> Self {
@@ -279,15 +321,15 @@ impl Lists {
 
     /// Reads a rule by the standard, with places for any.
     fn read_whole(&mut self, family: u8, input: &[u8]) -> Result<(), Refusal> {
-        self.read(1, family, input, (OPERATORS, OPERATORS))
+        self.read(STANDARD, family, input, (OPERATORS, OPERATORS))
             .map(|_| ())
     }
 
     /// Adds a rule's words; `list` gives a list's start and count, and may add operators.
     fn push_rule(
         &mut self,
+        (family, distinguisher): Front,
         rule: &[u8],
-        family: u64,
         first: u64,
         list: impl Fn(&mut Self, &[u8]) -> Read<Span>,
     ) -> Read<()> {
@@ -306,6 +348,10 @@ impl Lists {
         self.words[base + COUNT] = count as u64;
         self.words[base + FAMILY] = family;
         self.words[base + FIRST] = first;
+        if let Some(octets) = distinguisher {
+            self.words[base + DISTINGUISHED] = 1;
+            self.words[base + DISTINGUISHER] = u64::from_be_bytes(octets);
+        }
         Ok(())
     }
 
@@ -318,6 +364,12 @@ impl Lists {
             self.values.push(value);
         }
         Ok((start - first, self.values.len() as u64 - start))
+    }
+
+    /// The distinguisher of the rule that a reading left here.
+    fn distinguisher(&self) -> Option<[u8; 8]> {
+        let bits = self.words[DISTINGUISHER];
+        Some(bits.to_be_bytes()).filter(|_| self.words[DISTINGUISHED] == 1)
     }
 
     /// Puts the rule that a reading left here.
@@ -342,11 +394,29 @@ fn put_read(used: usize, operators: usize, answer: &mut Vec<u8>) {
     protocol::put_number(operators as u64, answer);
 }
 
+/// What a choice accepts: the place of the rule that decides, where one does.
+fn put_chosen(place: Option<usize>, answer: &mut Vec<u8>) {
+    answer.extend_from_slice(b"ok ");
+    match place {
+        None => answer.extend_from_slice(b"none"),
+        Some(place) => protocol::put_number(place as u64, answer),
+    }
+}
+
 /// A refusal with its place.
 fn put_placed(refusal: Refusal, answer: &mut Vec<u8>) {
     let carried: Vec<u64> = refusal.carried().collect();
     let place = refusal.place().map(|place| place as u64);
     protocol::put_placed_refusal(refusal.number().into(), &carried, place, answer);
+}
+
+/// The standard reading that expects a distinguisher or none.
+fn expecting(field: &[u8]) -> Read<u8> {
+    match field {
+        b"rd" => Ok(WITH_DISTINGUISHER),
+        protocol::NONE => Ok(STANDARD),
+        _ => Err(Bad("a distinguisher is expected by rd, none by -")),
+    }
 }
 
 /// A number of places to be lent.

@@ -64,9 +64,15 @@ fn what_cannot_be_read_is_answered_bad_and_the_next_line_is_read() {
         "std_read\t4\t-\t00\t1048577".to_string(),
         "std_read\t4\t-\t0\t0".to_string(),
         "std_read\t256\t-\t00\t0".to_string(),
-        "std_read\t4\trd\t00\t0".to_string(),
+        "std_read\t4\tRD\t00\t0".to_string(),
+        "std_read\t4\trd \t00\t0".to_string(),
+        "std_read\t4\t0000000000000007\t00\t0".to_string(),
         "std_read\t4\t\t00\t0".to_string(),
         "std_read\t4\t-\t00\t0\t".to_string(),
+        "std_read\t4\trd\t00".to_string(),
+        "std_read\t4\trd\t0\t0".to_string(),
+        "std_read\t256\trd\t00\t0".to_string(),
+        "std_read4\trd\t00\t0,0".to_string(),
         "plain_place".to_string(),
         "plain_place\t".to_string(),
         "plain_place\t0".to_string(),
@@ -120,6 +126,32 @@ fn what_cannot_be_read_is_answered_bad_and_the_next_line_is_read() {
         format!("choose\t{PACKET}\t4=3:81"),
         format!("choose\t{PACKET}\t4=3:8=6"),
         format!("choose\t{PACKET}\t4=3:81=6,"),
+        format!("choose\t{PACKET}\t4!-!-"),
+        format!("choose\tp:{PACKET}\t4=-"),
+        "decide".to_string(),
+        format!("decide\tp:{PACKET}"),
+        format!("decide\tp:{PACKET}\t"),
+        format!("decide\t{PACKET}\t."),
+        format!("decide\tP:{PACKET}\t."),
+        "decide\tp:\t.".to_string(),
+        "decide\th:45000014000000004006000001020304C0000201\t.".to_string(),
+        format!("decide\tp:{PACKET}|-\t."),
+        format!("decide\tp:{PACKET}\t.\t."),
+        format!("decide\tp:{PACKET}\t4=-"),
+        format!("decide\tp:{PACKET}\t4!-"),
+        format!("decide\tp:{PACKET}\t!-!-"),
+        format!("decide\tp:{PACKET}\tfour!-!-"),
+        format!("decide\tp:{PACKET}\t4!!-"),
+        format!("decide\tp:{PACKET}\t4!rd!-"),
+        format!("decide\tp:{PACKET}\t4!000000000000007!-"),
+        format!("decide\tp:{PACKET}\t4!00000000000000007!-"),
+        format!("decide\tp:{PACKET}\t4!000000000000000007!-"),
+        format!("decide\tp:{PACKET}\t4!000000000000000a!-"),
+        format!("decide\tp:{PACKET}\t4!-!"),
+        format!("decide\tp:{PACKET}\t4!-!-!-"),
+        format!("decide\tp:{PACKET}\t4!-!-&"),
+        format!("decide\tp:{PACKET}\t4!-!3:@0+1"),
+        format!("decide\tp:{PACKET}\t4!-!3:81=6,"),
     ];
     let output = answer(&[], (wrong.join("\n") + "\nplain_read\t00\t0,0").as_bytes());
     let text = String::from_utf8(output.stdout).unwrap();
@@ -200,6 +232,44 @@ fn two_calls_say_where_the_octets_broke() {
 }
 
 #[test]
+fn a_distinguisher_is_read_and_decided_by() {
+    let decide = |rules: &str| format!("decide\tp:{PACKET}\t{rules}");
+    let lines = [
+        (
+            "std_read\t4\trd\t0B0000FBF000000007038106\t1".to_string(),
+            "ok 12 1 0000FBF000000007 3:81=6",
+        ),
+        (
+            "std_read\t6\trd\t080000000000000000\t0".to_string(),
+            "ok 9 0 0000000000000000 -",
+        ),
+        ("std_read\t4\trd\t03038106\t9".to_string(), "err 19 - @4"),
+        (
+            "std_read\t4\trd\t0B0000FBF000000007038106\t0".to_string(),
+            "err 9 1 @-",
+        ),
+        // What one request leaves is not the next one's.
+        ("std_read\t4\t-\t03038106\t1".to_string(), "ok 4 1 - 3:81=6"),
+        ("plain_read\t03038106\t1,1".to_string(), "ok 4 1 3:81=6"),
+        (decide("."), "ok none"),
+        (decide("4!-!3:81=17&4!-!-"), "ok 1"),
+        (
+            decide("4!00000000000000FF!-&4!00000000000000FF!3:81=6"),
+            "ok 1",
+        ),
+        (decide("4!-!-&4!-!-&4!0000000000000000!-"), "err 20 2 @-"),
+        (decide("6!0000000000000001!-&4!-!-"), "err 14 0 @-"),
+        (decide("4!0000000000000001!3:81=256"), "err 10 - @-"),
+        // Those without a distinguisher are lent as they were.
+        (format!("choose\t{PACKET}\t4=3:81=6&4=-"), "ok 0"),
+    ];
+    let requests: Vec<&str> = lines.iter().map(|(request, _)| &request[..]).collect();
+    let text = String::from_utf8(answer(&[], requests.join("\n").as_bytes()).stdout).unwrap();
+    let wanted: Vec<&str> = lines.iter().map(|(_, answer)| *answer).collect();
+    assert_eq!(text.lines().collect::<Vec<_>>(), wanted);
+}
+
+#[test]
 fn an_answer_comes_before_the_next_request_is_asked_for() {
     let mut child = command().spawn().unwrap();
     let (mut stdin, mut stdout) = (child.stdin.take().unwrap(), child.stdout.take().unwrap());
@@ -234,6 +304,10 @@ fn the_command_line_is_checked() {
         "match",
         "rank",
         "choose",
+        "decide",
+        "FAMILY!RD!RULE",
+        "ShortDistinguisher",
+        "MixedDistinguisher",
         "TAB",
     ] {
         assert!(text.contains(word), "{word}");

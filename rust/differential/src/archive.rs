@@ -17,45 +17,88 @@ impl From<Answer> for crate::Answer {
     }
 }
 
-/// What the surface asks for: 0 is the plain reading or writing, which looks at no family.
-#[inline]
-fn asked(form: Form) -> (u8, u8) {
-    match form {
-        Form::Plain => (0, 0),
-        Form::Standard(family) => (1, family),
+/// What the surface is asked for: which reading or writing, by a number, and in which family. The
+/// plain one looks at no family.
+#[derive(Clone, Copy)]
+pub struct Asked {
+    standard: u8,
+    family: u8,
+}
+
+impl From<Form> for Asked {
+    #[inline]
+    fn from(form: Form) -> Self {
+        let (standard, family) = match form {
+            Form::Plain => (surface::PLAIN, 0),
+            Form::Standard(family) => (surface::STANDARD, family),
+            Form::WithDistinguisher(family) => (surface::WITH_DISTINGUISHER, family),
+        };
+        Asked { standard, family }
     }
+}
+
+impl Asked {
+    /// A reading of this form, now and then by another number that asks for the same.
+    pub fn reading(form: Form, turn: u64) -> Self {
+        let asked = Asked::from(form);
+        match asked.standard {
+            surface::STANDARD if turn % 8 == 0 => Asked {
+                standard: unnamed(turn / 8),
+                ..asked
+            },
+            _ => asked,
+        }
+    }
+
+    /// A writing of this form, by every number that asks for the same.
+    pub fn writing(form: Form, turn: u64) -> Self {
+        let asked = Asked::from(form);
+        let standard = match (asked.standard, turn % 8) {
+            (surface::PLAIN, _) => surface::PLAIN,
+            (_, 0) => unnamed(turn / 8),
+            (_, turn) if turn % 2 == 0 => surface::WITH_DISTINGUISHER,
+            _ => surface::STANDARD,
+        };
+        Asked { standard, ..asked }
+    }
+}
+
+/// A number that names no reading, all of them by turns.
+fn unnamed(turn: u64) -> u8 {
+    let first = surface::WITH_DISTINGUISHER + 1;
+    first + (turn % u64::from(u8::MAX - first + 1)) as u8
 }
 
 /// Reads a rule into lent words and its operators into lent lists: used, and how many operators.
 #[inline]
 pub fn read(
-    form: Form,
+    asked: impl Into<Asked>,
     input: &[u8],
     words: &mut [u64],
     values: &mut [u64],
     octets: &mut [u8],
 ) -> Answer {
-    let (standard, family) = asked(form);
+    let Asked { standard, family } = asked.into();
     surface::read(standard, family, input, words, values, octets)
 }
 
 /// Checks a rule: used, and how many operators.
 #[inline]
-pub fn check(form: Form, input: &[u8]) -> Answer {
-    let (standard, family) = asked(form);
+pub fn check(asked: impl Into<Asked>, input: &[u8]) -> Answer {
+    let Asked { standard, family } = asked.into();
     surface::check(standard, family, input)
 }
 
 /// Writes a rule that stands in lent words and lists: how many octets.
 #[inline]
 pub fn write(
-    form: Form,
+    asked: impl Into<Asked>,
     words: &[u64],
     values: &[u64],
     octets: &[u8],
     output: &mut [u8],
 ) -> Answer {
-    let (standard, family) = asked(form);
+    let Asked { standard, family } = asked.into();
     surface::write(standard, family, words, values, octets, output)
 }
 

@@ -1,10 +1,12 @@
 //! One input after another put to the proved code and to its peer, and every answer compared: what
 //! is told, what is filled, and that everything else stays as it was.
 
+use crate::archive::{self, Asked};
 use crate::lent::{Lent, Place};
 use crate::requests::hex;
 use crate::stored::{Stored, COUNT, WORDS};
-use crate::{archive, peers, refusal, Answer, Form, LONGEST_INPUT};
+use crate::{peers, refusal, Answer, Form, LONGEST_INPUT};
+use standard::DISTINGUISHER_OCTETS;
 use std::collections::BTreeMap;
 use std::process;
 
@@ -26,6 +28,9 @@ pub struct Comparison {
     output: Lent<u8>,
     stored: Stored,
     written: Vec<u8>,
+    /// Lent to what is timed beside the proved code.
+    timed: Stored,
+    timed_output: Vec<u8>,
 }
 
 impl Comparison {
@@ -42,6 +47,8 @@ impl Comparison {
             output: Lent::new(),
             stored: Stored::new(0),
             written: Vec::new(),
+            timed: Stored::new(0),
+            timed_output: Vec::new(),
         }
     }
 
@@ -87,6 +94,7 @@ impl Comparison {
             self.same_reading(form, input, answer, lent);
             return;
         }
+        self.timed_reading(form, input, answer);
         let needed = self.stored.values.len();
         let less = needed.saturating_sub(1);
         let lent = [
@@ -134,7 +142,7 @@ impl Comparison {
         self.calls += 1;
         let turn = self.calls;
         let found = Answer::from(archive::read(
-            form,
+            Asked::reading(form, turn),
             input,
             self.words.lend(room.words, turn),
             self.values.lend(room.values, turn),
@@ -163,7 +171,7 @@ impl Comparison {
             octets,
         } = room;
         let found_lists = (self.words.list(), self.values.list(), self.octets.list());
-        let wanted_lists = (&stored.words[..], &stored.values[..], &stored.octets[..]);
+        let wanted_lists = lists(stored);
         let mut lines = vec![
             format!("differ: {form} reading of {}", hex(input)),
             format!("  lent: {words} words, {values} values, {octets} octets"),
@@ -177,12 +185,37 @@ impl Comparison {
         false
     }
 
+    /// Whether the reading that is timed accepts what is accepted, with the same rule, and refuses
+    /// to read it where a place is too few.
+    fn timed_reading(&mut self, form: Form, input: &[u8], answer: Answer) {
+        let needed = self.stored.values.len();
+        let lent = [needed.checked_sub(1), Some(needed)];
+        for places in lent.into_iter().flatten() {
+            self.timed.clear(0);
+            self.timed.values.resize(places, 0);
+            self.timed.octets.resize(places, 0);
+            let found = match peers::timed_read(form, input, &mut self.timed) {
+                None => return,
+                Some(found) => found,
+            };
+            let wanted = room(WORDS, places, places).answer(answer);
+            if found == wanted && (!wanted.is_accepted() || self.timed == self.stored) {
+                continue;
+            }
+            self.difference(&[
+                format!("differ: {form} reading of {} by Rust", hex(input)),
+                format!("  timed: {}", reading_text(found, lists(&self.timed))),
+                format!("  wanted: {}", reading_text(wanted, lists(&self.stored))),
+            ]);
+        }
+    }
+
     /// Compares a check with what must come of a reading that has room. The validator that is timed
     /// beside it is held to the same answer.
     fn checking(&mut self, form: Form, input: &[u8], wanted: Answer) {
         self.calls += 1;
         self.checked += 1;
-        let found = Answer::from(archive::check(form, input));
+        let found = Answer::from(archive::check(Asked::reading(form, self.calls), input));
         let timed = peers::timed_check(form, input);
         if found == wanted && timed == wanted {
             return;
@@ -196,9 +229,9 @@ impl Comparison {
     }
 
     /// Compares every truncation of an accepted input with what must come of it, whatever the peers
-    /// say. Octets that are cut off are missing at the truncation's length. Where the length field is
-    /// cut back, the rule ends with a component or octets are missing at the stated end; the plain
-    /// reading goes on to octets behind that.
+    /// say. Octets that are cut off are missing at the truncation's length. Where the length field
+    /// is cut back, the rule ends with a component or octets are missing at the stated end, of a
+    /// distinguisher before all else; the plain reading goes on to octets behind that.
     pub fn truncations(&mut self, form: Form, input: &[u8]) {
         let answer = peers::read(form, input, &mut self.stored);
         if !answer.is_accepted() {
@@ -210,19 +243,22 @@ impl Comparison {
         }
         let start = if input[0] < 240 { 1 } else { 2 };
         let either = [Told::Missing, Told::Ended];
-        let behind = match form {
-            Form::Plain => &either[1..],
-            Form::Standard(_) => &either,
-        };
         let mut cut = input.to_vec();
         for end in start..used {
             let length = end - start;
+            let (behind, gone) = match form {
+                Form::Plain => (&either[1..], &either[..]),
+                Form::WithDistinguisher(_) if length < DISTINGUISHER_OCTETS => {
+                    (&[Told::Short][..], &[Told::Short][..])
+                }
+                Form::Standard(_) | Form::WithDistinguisher(_) => (&either[..], &either[..]),
+            };
             cut[start - 1] = length as u8;
             if start == 2 {
                 cut[0] = 0xF0 | (length >> 8) as u8;
             }
             self.truncation(form, &cut, end, behind);
-            self.truncation(form, &cut[..end], end, &either);
+            self.truncation(form, &cut[..end], end, gone);
         }
     }
 
@@ -231,18 +267,20 @@ impl Comparison {
     fn truncation(&mut self, form: Form, cut: &[u8], end: usize, wanted: &[Told]) {
         self.calls += 2;
         let (turn, places) = (self.calls, self.stored.values.len());
-        let found = Answer::from(archive::check(form, cut));
+        let asked = Asked::reading(form, turn);
+        let found = Answer::from(archive::check(asked, cut));
         let read = Answer::from(archive::read(
-            form,
+            asked,
             cut,
             self.words.lend(WORDS, turn),
             self.values.lend(places, turn),
             self.octets.lend(places, turn),
         ));
         self.count(found, "ends with a component");
-        let missing = Answer::refused(refusal::INSUFFICIENT_DATA, 0, 0).at(Some(end));
+        let refused = |status| Answer::refused(status, 0, 0).at(Some(end));
         let is_so = |told: &Told| match told {
-            Told::Missing => found == missing,
+            Told::Missing => found == refused(refusal::INSUFFICIENT_DATA),
+            Told::Short => found == refused(refusal::SHORT_DISTINGUISHER),
             Told::Ended => found.is_accepted() && found.first == end as u64,
         };
         if read == found && wanted.iter().any(is_so) {
@@ -261,6 +299,7 @@ impl Comparison {
         let turn = self.compared as usize;
         let answer = peers::write(form, record, &mut self.written);
         self.count(answer, "accepted");
+        self.timed_writing(form, record, answer);
         if !answer.is_accepted() {
             let room = [0, 3, LONGEST_INPUT + 8, 64][turn % 4];
             self.same_writing(form, record, answer, room);
@@ -278,6 +317,34 @@ impl Comparison {
         short.into_iter().all(same);
     }
 
+    /// Whether the writing that is timed answers so, with just enough room and with too little, and
+    /// writes the same.
+    fn timed_writing(&mut self, form: Form, record: &Stored, answer: Answer) {
+        let needed = self.written.len();
+        let lent = [needed.checked_sub(1), Some(needed)];
+        for room in lent.into_iter().flatten() {
+            self.timed_output.clear();
+            self.timed_output.resize(room, 0);
+            let found = match peers::timed_write(form, record, &mut self.timed_output) {
+                None => return,
+                Some(found) => found,
+            };
+            let wanted = match room < needed {
+                true => Answer::refused(refusal::NO_ROOM, needed as u64, 0),
+                false => answer,
+            };
+            if found == wanted && (room < needed || self.timed_output == self.written) {
+                continue;
+            }
+            let asked = record_text(&record.words, &record.values, &record.octets);
+            self.difference(&[
+                format!("differ: {form} writing of {asked} by Rust"),
+                format!("  timed: {}", writing_text(found, &self.timed_output)),
+                format!("  wanted: {}", writing_text(wanted, &self.written)),
+            ]);
+        }
+    }
+
     /// Whether the proved writing, lent so many octets, answers so and leaves them so.
     fn same_writing(&mut self, form: Form, record: &Stored, wanted: Answer, room: usize) -> bool {
         self.calls += 1;
@@ -289,7 +356,7 @@ impl Comparison {
         words[..own].copy_from_slice(&record.words);
         let output = self.output.lend(room, turn);
         let found = Answer::from(archive::write(
-            form,
+            Asked::writing(form, turn),
             words,
             &record.values,
             &record.octets,
@@ -330,6 +397,7 @@ impl Comparison {
 #[derive(Debug)]
 enum Told {
     Missing,
+    Short,
     Ended,
 }
 
@@ -368,6 +436,10 @@ impl Default for Comparison {
     fn default() -> Self {
         Comparison::new()
     }
+}
+
+fn lists(stored: &Stored) -> (&[u64], &[u64], &[u8]) {
+    (&stored.words, &stored.values, &stored.octets)
 }
 
 fn reading_text(answer: Answer, lists: (&[u64], &[u64], &[u8])) -> String {

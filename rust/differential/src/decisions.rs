@@ -81,11 +81,12 @@ impl Comparison {
 }
 
 /// A random match: a rule, and a packet near what it or one like it asks for; one time in five
-/// the rule is damaged or has a value that is too wide, the packet is spoiled or of the other family,
-/// or the words are too few or more.
+/// the rule is damaged, also in its distinguisher, or has a value that is too wide, the packet is
+/// spoiled or of the other family, or the words are too few or more.
 pub fn random_match(random: &mut Random, comparison: &mut Comparison, ways: &mut Ways) {
     let family = random.pick(&[4, 6]);
-    let flow = flows::good(family, random);
+    let mut flow = flows::good(family, random);
+    flows::distinguish(&mut [&mut flow], random);
     let (packet, mut way) = match random.below(8) {
         0 => packets::near(&flows::like(&flow, random).0, random),
         _ => packets::near(&flow, random),
@@ -112,6 +113,10 @@ pub fn random_match(random: &mut Random, comparison: &mut Comparison, ways: &mut
             way = "words behind the rule, or too few";
         }
         4 if flows::widen(random, &rule.words, &mut rule.octets) => way = TOO_WIDE,
+        5 => {
+            records::damage_distinguisher(random, &mut rule.words);
+            way = DISTINGUISHER_DAMAGED;
+        }
         _ => {}
     }
     *ways.entry(way).or_insert(0) += 1;
@@ -119,6 +124,7 @@ pub fn random_match(random: &mut Random, comparison: &mut Comparison, ways: &mut
 }
 
 const TOO_WIDE: &str = "a value too wide for its type";
+const DISTINGUISHER_DAMAGED: &str = "a distinguisher damaged";
 
 /// Puts words behind a rule's own, or takes some of those away.
 fn behind(random: &mut Random, rule: &mut Stored) {
@@ -128,7 +134,10 @@ fn behind(random: &mut Random, rule: &mut Stored) {
 
 /// A random ranking: mostly of rules that differ in one thing, or in two.
 pub fn random_ranking(random: &mut Random, comparison: &mut Comparison, ways: &mut Ways) {
-    let (one, other, mut way) = two_flows(random);
+    let (mut one, mut other, mut way) = two_flows(random);
+    if flows::distinguish(&mut [&mut one, &mut other], random) {
+        way = "distinguishers that differ";
+    }
     let mut stored = [Stored::new(0), Stored::new(0)];
     flows::store(&one, random, &mut stored[0]);
     flows::store(&other, random, &mut stored[1]);
@@ -155,6 +164,10 @@ pub fn random_ranking(random: &mut Random, comparison: &mut Comparison, ways: &m
             if flows::widen(random, &rule.words, &mut rule.octets) {
                 way = TOO_WIDE;
             }
+        }
+        5 => {
+            records::damage_distinguisher(random, &mut stored[which].words);
+            way = DISTINGUISHER_DAMAGED;
         }
         _ => {}
     }

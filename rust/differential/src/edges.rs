@@ -3,8 +3,9 @@
 use crate::packets;
 use crate::stored::{Stored, COUNT, FAMILY, IPV4, IPV4_OFFSET, IPV6, IPV6_OFFSET, WORDS};
 use crate::{flows, records, tables, LONGEST_BODY, MOST_OPERATORS, MOST_RULES};
-use inputs::{framed, list_of, octets, Random};
+use inputs::{framed, list_of, octets, Random, DISTINGUISHERS};
 use standard::{Address, Component, Content, Flow, Operator, Packet, Prefix, Rule};
+use standard::{Distinguisher, DISTINGUISHER_OCTETS};
 
 /// Whoever is handed a rule and the words of a packet, or a table and those.
 pub type TakeWithPacket<'a> = &'a mut dyn FnMut(&Stored, &[u64]);
@@ -27,6 +28,7 @@ pub fn matches(take: TakeWithPacket) {
     absent(take);
     packet_words(take);
     rule_words(take);
+    distinguished(take);
     for (family, rule) in long_and_wide_rules() {
         take(&rule, &packets::words(&full(family, 37)));
     }
@@ -37,6 +39,7 @@ pub fn rankings(take: TakeTwo) {
     ranked_prefixes(take);
     ranked_lists(take);
     ranked_types(take);
+    ranked_distinguishers(take);
     let rules = long_and_wide_rules();
     for ((_, one), (_, other)) in rules.iter().zip(&rules[1..]) {
         take(one, one);
@@ -62,6 +65,7 @@ pub fn choices(take: TakeWithPacket) {
     turned(take);
     refused(take);
     numbers_of_rules(take);
+    mixed_distinguishers(take);
     for (family, rule) in long_and_wide_rules() {
         let mut table = table(&[flow(family, "00")]);
         tables::push(&mut table, &rule);
@@ -88,9 +92,28 @@ fn full(family: u8, number: u64) -> Packet {
 }
 
 fn stored(family: u8, components: Vec<Component>) -> Stored {
+    let rule = Rule {
+        distinguisher: None,
+        components,
+    };
+    stored_rule(&Flow { family, rule })
+}
+
+fn stored_rule(flow: &Flow) -> Stored {
     let mut record = Stored::new(0);
-    record.put_standard(family, &Rule { components });
+    record.put_standard(flow.family, &flow.rule);
     record
+}
+
+/// None, and all that are made by rule.
+fn distinguishers() -> impl Iterator<Item = Option<Distinguisher>> {
+    [None].into_iter().chain(DISTINGUISHERS.map(Some))
+}
+
+fn with(distinguisher: Option<Distinguisher>, flow: &Flow) -> Flow {
+    let mut flow = flow.clone();
+    flow.rule.distinguisher = distinguisher;
+    flow
 }
 
 fn list(kind: u8, operators: &[(u8, u64)]) -> Component {
@@ -428,21 +451,29 @@ fn packet_words(take: TakeWithPacket) {
     }
 }
 
-/// Each word of a rule changed in each bit, and too few words; the packet good, and not.
+/// Each word of a rule changed in each bit, and too few words; the packet good, and not. The last
+/// rule has a distinguisher.
 fn rule_words(take: TakeWithPacket) {
     let bodies = [
         (
             4,
             "01 10 0A 01 02 08 0B 03 81 06 05 03 50 45 5A 91 01 BB 0C 81 02",
+            None,
         ),
-        (6, "01 20 00 20 01 0D B8 02 68 40 12 34 56 78 9A 0D 81 06"),
-        (6, "03 81 06 04 01 50 82 00 09 80 10"),
+        (
+            6,
+            "01 20 00 20 01 0D B8 02 68 40 12 34 56 78 9A 0D 81 06",
+            None,
+        ),
+        (6, "03 81 06 04 01 50 82 00 09 80 10", None),
+        (4, "01 10 0A 01 03 81 06", Some(DISTINGUISHERS[1])),
     ];
-    for (family, body) in bodies {
+    for (family, body, distinguisher) in bodies {
         let input = framed(&octets(body));
         let reading = standard::read(family, &input).expect("these are accepted");
         let mut rule = Stored::new(0);
         rule.put_standard(family, &reading.rule);
+        rule.put_distinguisher(distinguisher);
         let mut packet = packets::words(&full(family, 6));
         for _ in 0..2 {
             for at in 0..WORDS {
@@ -466,6 +497,29 @@ fn rule_words(take: TakeWithPacket) {
                 take(&short, &packet);
             }
             packet[7] = 64;
+        }
+    }
+}
+
+/// Rules with each distinguisher and without, that match, do not match and are bad, against packets
+/// of both families and one out of range.
+fn distinguished(take: TakeWithPacket) {
+    let mut wrong = packets::words(&full(4, 3));
+    wrong[8] = 16;
+    for family in FAMILIES {
+        let packets = [4, 6].map(|family| packets::words(&full(family, 3)));
+        for text in ["00", "03 03 81 03", "03 03 81 04"] {
+            for distinguisher in distinguishers() {
+                let rule = with(distinguisher, &flow(family, text));
+                let bad = Flow {
+                    family: 5,
+                    ..rule.clone()
+                };
+                for packet in packets.iter().chain([&wrong]) {
+                    take(&stored_rule(&rule), packet);
+                    take(&stored_rule(&bad), packet);
+                }
+            }
         }
     }
 }
@@ -583,13 +637,28 @@ fn ranked_types(take: TakeTwo) {
     }
 }
 
+/// Every two distinguishers, of rules that rank equal and not, in both families, and of one that is
+/// bad.
+fn ranked_distinguishers(take: TakeTwo) {
+    let rules = |distinguisher| {
+        let of = |family, text| with(distinguisher, &flow(family, text));
+        let bad = Flow {
+            family: 5,
+            ..of(4, "00")
+        };
+        [of(4, "00"), of(4, "03 03 81 03"), of(6, "00"), bad]
+    };
+    for one in distinguishers().flat_map(rules) {
+        for other in distinguishers().flat_map(rules) {
+            take(&stored_rule(&one), &stored_rule(&other));
+        }
+    }
+}
+
 fn table(flows: &[Flow]) -> Stored {
     let mut table = tables::empty();
     for flow in flows {
-        tables::push(
-            &mut table,
-            &stored(flow.family, flow.rule.components.clone()),
-        );
+        tables::push(&mut table, &stored_rule(flow));
     }
     table
 }
@@ -601,8 +670,9 @@ fn flow(family: u8, text: &str) -> Flow {
     Flow { family, rule }
 }
 
-/// Rules whose bodies are as long as they may be, nearly so and longer, of each width, and of as many
-/// operators as there may be and one more; with their families.
+/// Rules whose bodies are as long as they may be, nearly so and longer, of each width, without a
+/// distinguisher and with one, which counts; and of as many operators as there may be and one more;
+/// with their families.
 fn long_rules() -> Vec<(u8, Stored)> {
     let mut rules = Vec::new();
     for family in FAMILIES {
@@ -610,6 +680,12 @@ fn long_rules() -> Vec<(u8, Stored)> {
             for code in 0..4 {
                 let mut rule = Stored::new(family.into());
                 records::push_body(&mut rule, &list_of(4, length, code));
+                rules.push((family, rule.clone()));
+                rule.put_distinguisher(Some(DISTINGUISHERS[0]));
+                rules.push((family, rule));
+                let mut rule = Stored::new(family.into());
+                records::push_body(&mut rule, &list_of(4, length - DISTINGUISHER_OCTETS, code));
+                rule.put_distinguisher(Some(DISTINGUISHERS[1]));
                 rules.push((family, rule));
             }
         }
@@ -697,14 +773,17 @@ const PREFIXES: [(u8, [&str; 4]); 2] = [
     ),
 ];
 
-/// Some of those rules in many orders, one or the other twice.
+/// Some of those rules in many orders, one or the other twice; every second table with a
+/// distinguisher.
 fn turned(take: TakeWithPacket) {
     let mut random = Random::new(0xF20);
     for (family, prefixes) in PREFIXES {
         let texts = [&LISTS[..], &prefixes].concat();
-        for _ in 0..4000 {
+        for turn in 0..4000 {
             let count = 1 + random.below(12);
-            let rules = (0..count).map(|_| flow(family, random.pick(&texts)));
+            let own = DISTINGUISHERS[turn % DISTINGUISHERS.len()];
+            let own = Some(own).filter(|_| turn % 2 == 1);
+            let rules = (0..count).map(|_| with(own, &flow(family, random.pick(&texts))));
             let rules: Vec<Flow> = rules.collect();
             let packet = full(family, random.below(6) as u64);
             take(&table(&rules), &packets::words(&packet));
@@ -712,8 +791,8 @@ fn turned(take: TakeWithPacket) {
     }
 }
 
-/// A bad rule, one of another family and both in every two places of some rules; with a bad packet,
-/// words left over and too many rules.
+/// A bad rule, one of another family, one of another distinguisher and two of these in some places
+/// among others; with a bad packet, words left over and too many rules.
 fn refused(take: TakeWithPacket) {
     let good = flow(4, "03 03 81 03");
     let other = flow(6, "03 03 81 03");
@@ -723,12 +802,23 @@ fn refused(take: TakeWithPacket) {
     none.family = 5;
     let mut wide = good.clone();
     wide.rule.components = vec![list(11, &[(0x01, 3), (0x91, 3)])];
+    let zero = with(Some(DISTINGUISHERS[0]), &good);
+    let own = with(Some(DISTINGUISHERS[1]), &good);
+    let other_own = with(Some(DISTINGUISHERS[1]), &other);
+    // It is good without one.
+    let body = list_of(4, LONGEST_BODY - DISTINGUISHER_OCTETS + 1, 3);
+    let reading = standard::read(4, &framed(&body)).expect("this is accepted");
+    let mut long = own.clone();
+    long.rule.components = reading.rule.components;
+    let kinds = [
+        &good, &other, &bad, &none, &wide, &zero, &own, &other_own, &long,
+    ];
     let fine = packets::words(&full(4, 3));
     let mut wrong = fine;
     wrong[8] = 16;
     for count in [1, 2, 3, 8, 63, 64, 65] {
-        for one in [&good, &other, &bad, &none, &wide] {
-            for two in [&good, &other, &bad, &none, &wide] {
+        for one in kinds {
+            for two in kinds {
                 for places in [(0, count - 1), (count / 2, count / 3), (count - 1, 0)] {
                     let mut rules = vec![good.clone(); count];
                     rules[places.0] = one.clone();
@@ -742,6 +832,35 @@ fn refused(take: TakeWithPacket) {
                 }
             }
         }
+    }
+}
+
+/// One rule that has another distinguisher than the rest, or alone has one or none, at every place;
+/// and several, of whose places the first that is not as place 0 counts.
+fn mixed_distinguishers(take: TakeWithPacket) {
+    let rule = flow(4, "03 03 81 03");
+    let packet = packets::words(&full(4, 3));
+    let kinds = [
+        None,
+        Some(DISTINGUISHERS[0]),
+        Some(DISTINGUISHERS[5]),
+        Some(DISTINGUISHERS[6]),
+    ];
+    for most in kinds {
+        for one in kinds {
+            for count in [1, 2, 3, 4, 31, MOST_RULES] {
+                for place in 0..count {
+                    let mut rules = vec![with(most, &rule); count];
+                    rules[place] = with(one, &rule);
+                    take(&table(&rules), &packet);
+                }
+            }
+        }
+    }
+    for pattern in 0..1 << 10 {
+        let own = |place: usize| with(kinds[pattern >> (2 * place) & 3], &rule);
+        let rules: Vec<Flow> = (0..5).map(own).collect();
+        take(&table(&rules), &packet);
     }
 }
 

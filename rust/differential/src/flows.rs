@@ -5,7 +5,7 @@ use crate::packets::most;
 use crate::stored::{Stored, COUNT, FIRST};
 use crate::{records, Form};
 use inputs::Random;
-use standard::{Address, Component, Content, Flow, Operator, Prefix, Rule};
+use standard::{Address, Component, Content, Distinguisher, Flow, Operator, Prefix, Rule};
 
 const END: u8 = 0x80;
 const AND: u8 = 0x40;
@@ -26,8 +26,41 @@ pub fn good(family: u8, random: &mut Random) -> Flow {
     Flow {
         family,
         rule: Rule {
+            distinguisher: None,
             components: kinds.into_iter().map(component).collect(),
         },
+    }
+}
+
+/// Half of the time, gives rules a distinguisher, all the same one; in a quarter of these cases one
+/// or two of them get another then, or none. Whether they differ.
+pub fn distinguish(flows: &mut [&mut Flow], random: &mut Random) -> bool {
+    let way = random.below(8);
+    if way < 4 || flows.is_empty() {
+        return false;
+    }
+    let own = inputs::distinguisher(random);
+    for flow in flows.iter_mut() {
+        flow.rule.distinguisher = Some(own);
+    }
+    if way == 7 {
+        for _ in 0..=random.below(2) {
+            let place = random.below(flows.len());
+            flows[place].rule.distinguisher = another(own, random);
+        }
+    }
+    let first = flows[0].rule.distinguisher;
+    flows.iter().any(|flow| flow.rule.distinguisher != first)
+}
+
+/// None, a distinguisher with no bit set, one that differs in a bit, or any.
+fn another(own: Distinguisher, random: &mut Random) -> Option<Distinguisher> {
+    let near = u64::from_be_bytes(own) ^ 1 << random.below(64);
+    match random.below(4) {
+        0 => None,
+        1 => Some([0; 8]),
+        2 => Some(near.to_be_bytes()),
+        _ => Some(inputs::distinguisher(random)),
     }
 }
 

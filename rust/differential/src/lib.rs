@@ -2,17 +2,18 @@
 //!
 //! `archive` calls the proved code by the crate over it, `peers` has what must come back: by the
 //! original Rust (`oracle`) for the plain reading and writing, by `standard` for the others and for
-//! the place of every refusal.
-//! The crate `inputs` and `records` make what readings and writings are asked, `compare` asks it and
-//! compares; `edges`, `flows`, `packets` and `tables` make what matching, ranking and choosing are
-//! asked, `decisions` asks it and compares. `validator` is a check and `wordwise` a chooser to be
-//! timed. A rule crosses the surface as words; `stored` knows that form, `packets` that of a packet, and `neutral` that of the
-//! crate `protocol`, by which `requests` has the texts of stored answers. `samples` has
-//! those that are stored. `src/bin` has the programs.
-//! Without the feature `archive` nothing of the proved code is linked, nor compared with.
+//! the place of every refusal. The crate `inputs` and `records` make what readings and writings are
+//! asked, `compare` asks it and compares; `edges`, `flows`, `packets` and `tables` make what
+//! matching, ranking and choosing are asked, `decisions` asks it and compares. To be timed are
+//! `validator`, a check, `coder`, a reading and a writing, and `wordwise`, a chooser. A rule
+//! crosses the surface as words; `stored` knows that form, `packets` that of a packet, and
+//! `neutral` that of the crate `protocol`, by which `requests` has the texts of stored answers.
+//! `samples` has those that are stored. `src/bin` has the programs. Without the feature `archive`
+//! nothing of the proved code is linked, nor compared with.
 
 #[cfg(feature = "archive")]
 pub mod archive;
+pub mod coder;
 #[cfg(feature = "archive")]
 pub mod compare;
 #[cfg(feature = "archive")]
@@ -59,6 +60,8 @@ pub mod refusal {
     pub const TOO_MANY_RULES: u64 = 12;
     pub const BAD_PACKET: u64 = 13;
     pub const MIXED_FAMILY: u64 = 14;
+    pub const SHORT_DISTINGUISHER: u64 = 19;
+    pub const MIXED_DISTINGUISHER: u64 = 20;
 }
 
 impl Answer {
@@ -107,7 +110,8 @@ impl Answer {
             | refusal::NO_ROOM
             | refusal::BAD_FAMILY
             | refusal::TOO_MANY_RULES
-            | refusal::MIXED_FAMILY => vec![self.first],
+            | refusal::MIXED_FAMILY
+            | refusal::MIXED_DISTINGUISHER => vec![self.first],
             _ => Vec::new(),
         }
     }

@@ -123,6 +123,7 @@ pub fn near(flow: &Flow, random: &mut Random) -> (Packet, &'static str) {
         let alone = Flow {
             family: flow.family,
             rule: Rule {
+                distinguisher: None,
                 components: vec![component.clone()],
             },
         };

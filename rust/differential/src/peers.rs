@@ -2,19 +2,24 @@
 //! crate `standard` for the others, and by document 01 where it goes beyond them. Where a reading
 //! broke is told by `standard`, for the plain form too.
 
+use crate::coder::{self, Refused};
 use crate::packets;
-use crate::stored::{flow, original, parts, standard_rule, Stored, WORDS};
+use crate::stored::{flow, named, original, standard_rule, Stored, WORDS};
 use crate::{refusal, validator, wordwise, Answer, Form, LONGEST_INPUT, MOST_RULES};
 use oracle::error::EncodingError;
 use oracle::flowspec::{encode_flowspec_nlri, parse_flowspec_nlri, FlowSpecError};
-use standard::{Fault, Flow, Refusal};
+use standard::{Fault, Flow, Reading, Refusal, Rule};
 use std::cmp::Ordering;
 
 /// Reads; an accepted rule stands in `stored` afterwards. By the original, a refusal has no place.
 pub fn read(form: Form, input: &[u8], stored: &mut Stored) -> Answer {
     match form {
         Form::Plain => plain_read(input, stored),
-        Form::Standard(family) => standard_read(family, input, stored),
+        Form::Standard(family) => read_into(stored, family, standard::read(family, input)),
+        Form::WithDistinguisher(family) => {
+            let reading = standard::read_distinguished(family, input);
+            read_into(stored, family, reading)
+        }
     }
 }
 
@@ -34,11 +39,55 @@ pub fn timed_check(form: Form, input: &[u8]) -> Answer {
     }
 }
 
+/// Reads by the way that is timed, where there is one, into what is lent.
+pub fn timed_read(form: Form, input: &[u8], lent: &mut Stored) -> Option<Answer> {
+    let (family, is_distinguished) = match form {
+        Form::Plain => return None,
+        Form::Standard(family) => (family, false),
+        Form::WithDistinguisher(family) => (family, true),
+    };
+    let Stored {
+        words,
+        values,
+        octets,
+    } = lent;
+    let read = coder::read(family, is_distinguished, input, words, values, octets);
+    Some(match read {
+        Ok(checked) => Answer::accepted(checked.used, checked.operators),
+        Err(refused) => timed_refusal(refused),
+    })
+}
+
+/// Writes by the way that is timed, where there is one, into what is lent.
+pub fn timed_write(form: Form, record: &Stored, output: &mut [u8]) -> Option<Answer> {
+    let family = match form {
+        Form::Plain => return None,
+        Form::Standard(family) | Form::WithDistinguisher(family) => family,
+    };
+    let Stored {
+        words,
+        values,
+        octets,
+    } = record;
+    Some(match coder::write(family, words, values, octets, output) {
+        Ok(written) => Answer::accepted(written, 0),
+        Err(refused) => timed_refusal(refused),
+    })
+}
+
+fn timed_refusal(refused: Refused) -> Answer {
+    match refused {
+        Refused::By(fault) => standard_fault(fault),
+        Refused::NoRoom(needed) => Answer::refused(refusal::NO_ROOM, needed as u64, 0),
+    }
+}
+
 /// Writes; `written` holds the octets afterwards, none where the rule is refused.
 pub fn write(form: Form, record: &Stored, written: &mut Vec<u8>) -> Answer {
     let answer = match form {
         Form::Plain => plain_write(record),
-        Form::Standard(family) => standard_write(family, record),
+        // What the record has, it is written with.
+        Form::Standard(family) | Form::WithDistinguisher(family) => standard_write(family, record),
     };
     written.clear();
     match answer {
@@ -99,8 +148,8 @@ fn plain_write(record: &Stored) -> Result<Vec<u8>, Answer> {
         octets,
     } = record;
     let places = values.len().min(octets.len());
-    let parts = parts(words, places).ok_or_else(bad_record)?;
-    encode_flowspec_nlri(&original(&parts, values, octets)).map_err(|error| match error {
+    let named = named(words, places).ok_or_else(bad_record)?;
+    encode_flowspec_nlri(&original(&named, values, octets)).map_err(|error| match error {
         EncodingError::ValueTooLarge { actual, .. } => {
             Answer::refused(refusal::VALUE_TOO_LARGE, actual as u64, 0)
         }
@@ -108,8 +157,8 @@ fn plain_write(record: &Stored) -> Result<Vec<u8>, Answer> {
     })
 }
 
-fn standard_read(family: u8, input: &[u8], stored: &mut Stored) -> Answer {
-    match standard::read(family, input) {
+fn read_into(stored: &mut Stored, family: u8, reading: Result<Reading, Fault>) -> Answer {
+    match reading {
         Ok(reading) => {
             stored.put_standard(family, &reading.rule);
             Answer::accepted(reading.used, stored.values.len())
@@ -125,11 +174,12 @@ fn standard_write(family: u8, record: &Stored) -> Result<Vec<u8>, Answer> {
         octets,
     } = record;
     let places = values.len().min(octets.len());
-    let rule = match parts(words, places) {
-        Some(parts) => standard_rule(&parts, values, octets),
+    let rule = match named(words, places) {
+        Some(named) => standard_rule(&named, values, octets),
         // A wrong family comes before a bad record.
         None if [4, 6].contains(&family) => return Err(bad_record()),
-        None => standard::Rule {
+        None => Rule {
+            distinguisher: None,
             components: Vec::new(),
         },
     };
@@ -210,7 +260,7 @@ fn bad_record() -> Answer {
     Answer::refused(refusal::BAD_RECORD, 0, 0)
 }
 
-fn standard_fault(fault: Fault) -> Answer {
+pub fn standard_fault(fault: Fault) -> Answer {
     standard_refusal(fault.refusal).at(fault.place)
 }
 
@@ -233,6 +283,8 @@ pub fn standard_refusal(refused: Refusal) -> Answer {
         Refusal::TooManyRules(count) => (refusal::TOO_MANY_RULES, count as u64, 0),
         Refusal::BadPacket => (refusal::BAD_PACKET, 0, 0),
         Refusal::MixedFamily(place) => (refusal::MIXED_FAMILY, place as u64, 0),
+        Refusal::ShortDistinguisher => (refusal::SHORT_DISTINGUISHER, 0, 0),
+        Refusal::MixedDistinguisher(place) => (refusal::MIXED_DISTINGUISHER, place as u64, 0),
     };
     Answer::refused(status, first, second)
 }

@@ -1,9 +1,11 @@
 //! Records for the writings: those made by rule, which every run has, and random ones. Many are
 //! outside what a writing takes; the peers know which.
 
-use crate::stored::{Stored, COUNT, FAMILY, FIRST, IPV4, IPV4_OFFSET, IPV6, IPV6_OFFSET, WORDS};
+use crate::stored::{Stored, COUNT, DISTINGUISHED, FAMILY, FIRST, UNUSED, WORDS};
+use crate::stored::{IPV4, IPV4_OFFSET, IPV6, IPV6_OFFSET};
 use crate::{Form, LONGEST_BODY, MOST_COMPONENTS, MOST_OPERATORS};
-use inputs::{list_of, most_code, Random, LONG_LISTS};
+use inputs::{list_of, most_code, Random, DISTINGUISHERS, LONG_LISTS};
+use standard::DISTINGUISHER_OCTETS;
 
 /// Whoever is handed the records, one after another.
 pub type Take<'a> = &'a mut dyn FnMut(&Stored);
@@ -41,50 +43,87 @@ const PLACES: [u64; 13] = [
 
 /// All records that are made by rule.
 pub fn by_rule(form: Form, take: Take) {
-    take(&Stored::new(family(form)));
-    prefixes(form, take);
+    take(&empty(form));
+    // The forms of a prefix are many, and have nothing to do with a distinguisher.
+    if !matches!(form, Form::WithDistinguisher(_)) {
+        prefixes(form, take);
+    }
     operators(form, take);
     orders(form, take);
     long_bodies(form, take);
     maximums(form, take);
     spans(form, take);
     words(form, take);
+    distinguishers(form, take);
 }
 
 /// A random record: one that the form's writing takes, as it is or damaged, one whose values may be
-/// too wide for it, or one of any shape.
+/// too wide for it, or one of any shape. Of the plain form, whose writing does not look at it, one
+/// in four has a distinguisher.
 pub fn random(form: Form, random: &mut Random, record: &mut Stored) {
-    record.clear(family(form));
-    let widths = match (form, random.below(8)) {
-        (Form::Plain, 0..=3) | (_, 0) => return any_record(random, record),
-        (_, 1) => Form::Plain,
-        _ => form,
-    };
-    good_record(form, widths, random, record);
-    if random.once_in(2) {
-        damage(random, record);
+    clear(form, record);
+    match (form, random.below(8)) {
+        (Form::Plain, 0..=3) | (_, 0) => any_record(random, record),
+        (_, way) => {
+            let widths = if way == 1 { Form::Plain } else { form };
+            good_record(form, widths, random, record);
+            if random.once_in(2) {
+                damage(random, record);
+            }
+        }
+    }
+    match form {
+        Form::Standard(_) => {}
+        Form::Plain if !random.once_in(4) => {}
+        _ => distinguish(random, record),
     }
 }
 
-/// The family that a rule of this form is stored with.
-fn family(form: Form) -> u64 {
-    match form {
-        Form::Plain => 0,
-        Form::Standard(family) => u64::from(family),
+/// Gives a record a distinguisher, one time in eight with a fault, or a change that may be none.
+fn distinguish(random: &mut Random, record: &mut Stored) {
+    record.put_distinguisher(Some(inputs::distinguisher(random)));
+    if random.once_in(8) {
+        damage_distinguisher(random, &mut record.words);
+    }
+}
+
+/// Changes the words that hold a rule's distinguisher, or one behind them.
+pub fn damage_distinguisher(random: &mut Random, words: &mut [u64]) {
+    match random.below(6) {
+        0 => words[DISTINGUISHED] ^= 1,
+        1 => words[DISTINGUISHED] = random.pick(&[2, 3, 256, 257, 1 << 32, 1 << 63, u64::MAX]),
+        2 => words[DISTINGUISHED + 1] ^= 1 << random.below(64),
+        3 => words[DISTINGUISHED + 1] = 0,
+        4 => words[DISTINGUISHED..UNUSED].fill(0),
+        _ => words[UNUSED + random.below(WORDS - UNUSED)] = random.value(),
+    }
+}
+
+/// A rule of this form with no components.
+fn empty(form: Form) -> Stored {
+    let mut record = Stored::new(0);
+    clear(form, &mut record);
+    record
+}
+
+fn clear(form: Form, record: &mut Stored) {
+    record.clear(form.family().unwrap_or(0).into());
+    if let Form::WithDistinguisher(_) = form {
+        record.put_distinguisher(Some(DISTINGUISHERS[1]));
     }
 }
 
 /// Every form, length and offset of a prefix: all address bits set, those of the prefix alone, and
 /// those with a bit beside them.
 fn prefixes(form: Form, take: Take) {
-    let mut record = Stored::new(family(form));
+    let mut record = empty(form);
     for kind in [1, 2] {
         for prefix_form in [IPV4, IPV6, IPV4_OFFSET, IPV6_OFFSET] {
             let last_offset = if prefix_form < IPV4_OFFSET { 1 } else { 255 };
             for offset in (0..=last_offset).step_by(kind) {
                 for length in 0..=255 {
                     for address in addresses(prefix_form, length, offset) {
-                        record.clear(family(form));
+                        clear(form, &mut record);
                         record.push_prefix(kind as u8, prefix_form, length, offset, address);
                         take(&record);
                     }
@@ -134,13 +173,13 @@ fn between(prefix_form: u64, length: usize, offset: usize) -> u128 {
 /// Every operator octet in every list type with values at each width's edges: alone, before another
 /// operator and after one.
 fn operators(form: Form, take: Take) {
-    let mut record = Stored::new(family(form));
+    let mut record = empty(form);
     for kind in 3..=13 {
         for octet in 0..=255 {
             for value in VALUES {
                 let own = (octet, value);
                 for list in [&[own][..], &[own, (0x81, 7)], &[(0x01, 5), own]] {
-                    record.clear(family(form));
+                    clear(form, &mut record);
                     record.push_list(kind, list.iter().copied());
                     take(&record);
                 }
@@ -152,9 +191,9 @@ fn operators(form: Form, take: Take) {
 /// Types in every order, unknown ones too, empty lists, and as many components as a rule may have
 /// and one more: rising, falling, all alike.
 fn orders(form: Form, take: Take) {
-    let mut record = Stored::new(family(form));
+    let mut record = empty(form);
     let mut made = |kinds: &[u8]| {
-        record.clear(family(form));
+        clear(form, &mut record);
         for &kind in kinds {
             push_least(form, &mut record, kind);
         }
@@ -177,7 +216,7 @@ fn orders(form: Form, take: Take) {
         made(&[kind; MOST_COMPONENTS + 1]);
     }
     for kind in 3..=13 {
-        let mut record = Stored::new(family(form));
+        let mut record = empty(form);
         record.push_list(kind, [].into_iter());
         take(&record);
         push_least(form, &mut record, 13);
@@ -187,8 +226,8 @@ fn orders(form: Form, take: Take) {
 
 /// A least component of this type.
 fn push_least(form: Form, record: &mut Stored, kind: u8) {
-    match (kind, form) {
-        (1 | 2, Form::Standard(6)) => record.push_prefix(kind, IPV6_OFFSET, 8, 0, 0x0A << 120),
+    match (kind, form.family()) {
+        (1 | 2, Some(6)) => record.push_prefix(kind, IPV6_OFFSET, 8, 0, 0x0A << 120),
         (1 | 2, _) => record.push_prefix(kind, IPV4, 8, 0, 0x0A00_0000),
         _ => record.push_list(kind, [(0x81, 6)].into_iter()),
     }
@@ -203,13 +242,13 @@ fn long_bodies(form: Form, take: Take) {
         .chain([8191, 8192])
     {
         for (kind, code) in LONG_LISTS {
-            let mut record = Stored::new(family(form));
+            let mut record = empty(form);
             push_body(&mut record, &list_of(kind, length, code));
             take(&record);
             // The same length again, by a prefix in front.
-            let mut record = Stored::new(family(form));
+            let mut record = empty(form);
             push_least(form, &mut record, 2);
-            let taken = if form == Form::Standard(6) { 4 } else { 3 };
+            let taken = if form.family() == Some(6) { 4 } else { 3 };
             push_body(&mut record, &list_of(kind, length - taken, code));
             take(&record);
         }
@@ -246,14 +285,14 @@ fn maximums(form: Form, take: Take) {
                 }
             };
             let list = |count: usize| (0..count).rev().map(move |left| (octet(left), 7));
-            let mut record = Stored::new(family(form));
+            let mut record = empty(form);
             record.push_list(4, list(count));
             take(&record);
-            let mut record = Stored::new(family(form));
+            let mut record = empty(form);
             record.push_list(4, list(1000));
             record.push_list(5, list(count - 1000));
             take(&record);
-            let mut record = Stored::new(family(form));
+            let mut record = empty(form);
             record.push_list(4, list(1024));
             record.push([5, 1024 + 1024 - count as u64, count as u64 - 1024, 0]);
             take(&record);
@@ -265,7 +304,7 @@ fn maximums(form: Form, take: Take) {
 /// lists equally long or not; and sums that a word does not hold.
 fn spans(form: Form, take: Take) {
     for (values, octets) in [(5, 5), (5, 8), (9, 5), (0, 0), (0, 5), (2048, 2048)] {
-        let mut record = Stored::new(family(form));
+        let mut record = empty(form);
         record.values = (0..values).map(|place| place % 200).collect();
         record.octets = vec![0x01; octets];
         if let Some(octet) = record.octets.get_mut(4) {
@@ -288,9 +327,9 @@ fn spans(form: Form, take: Take) {
 /// too few words. The stored family, any octet, has no part in a writing: the one asked for decides.
 fn words(form: Form, take: Take) {
     let mut random = Random::new(0xF12);
-    let mut record = Stored::new(family(form));
+    let mut record = empty(form);
     for _ in 0..24 {
-        record.clear(family(form));
+        clear(form, &mut record);
         good_record(form, form, &mut random, &mut record);
         for word in 0..WORDS {
             let held = record.words[word];
@@ -314,10 +353,43 @@ fn words(form: Form, take: Take) {
     }
 }
 
+/// Some records with each distinguisher, with none, and with words in its place that are neither;
+/// and long ones with one, around the lengths where the length field changes and at the longest,
+/// counted without it and with it.
+fn distinguishers(form: Form, take: Take) {
+    let mut random = Random::new(0xF17);
+    let mut record = Stored::new(0);
+    for _ in 0..24 {
+        clear(form, &mut record);
+        good_record(form, form, &mut random, &mut record);
+        for distinguisher in DISTINGUISHERS {
+            record.put_distinguisher(Some(distinguisher));
+            take(&record);
+        }
+        for said in [0, 1, 2, 3, 255, 256, 257, 1 << 32, 1 << 63, u64::MAX] {
+            for number in [0, 1, 7, 0xFF, 1 << 32, 1 << 63, u64::MAX] {
+                record.words[DISTINGUISHED..UNUSED].copy_from_slice(&[said, number]);
+                take(&record);
+            }
+        }
+    }
+    let around = |length: usize| length - DISTINGUISHER_OCTETS - 2..=length + 2;
+    for length in around(240).chain(around(256)).chain(around(LONGEST_BODY)) {
+        for code in 0..4 {
+            clear(form, &mut record);
+            push_body(&mut record, &list_of(4, length, code));
+            for distinguisher in [None, Some(DISTINGUISHERS[0]), Some(DISTINGUISHERS[7])] {
+                record.put_distinguisher(distinguisher);
+                take(&record);
+            }
+        }
+    }
+}
+
 /// A record that the form's writing takes, unless its body comes out too long or its values, which
 /// have the widths of a form, are too wide.
 fn good_record(form: Form, widths: Form, random: &mut Random, record: &mut Stored) {
-    let last = if form == Form::Standard(4) { 12 } else { 13 };
+    let last = if form.family() == Some(4) { 12 } else { 13 };
     let odds = random.pick(&[2, 4, 4, 6]);
     let most = random.pick(&[1, 2, 4, 4, 8, 40]);
     begin(random, record);
@@ -330,7 +402,7 @@ fn good_record(form: Form, widths: Form, random: &mut Random, record: &mut Store
         }
     }
     if random.once_in(500) {
-        record.clear(family(form));
+        clear(form, record);
         let length = 4080 + random.below(24);
         push_body(record, &list_of(4, length, random.below(4) as u8));
     }
@@ -349,10 +421,10 @@ pub fn begin(random: &mut Random, record: &mut Stored) {
 
 fn good_prefix(form: Form, random: &mut Random, kind: u8, record: &mut Stored) {
     let any = u128::from(random.number()) << 64 | u128::from(random.number());
-    let prefix_form = match form {
-        Form::Plain => random.below(4) as u64,
-        Form::Standard(4) => IPV4,
-        Form::Standard(_) => IPV6_OFFSET,
+    let prefix_form = match form.family() {
+        None => random.below(4) as u64,
+        Some(4) => IPV4,
+        Some(_) => IPV6_OFFSET,
     };
     let length = random.below(address_size(prefix_form) as usize + 1);
     let offset = match prefix_form {

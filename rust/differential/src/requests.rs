@@ -5,10 +5,10 @@
 use crate::stored::{Stored, COUNT, FAMILY, IPV4, IPV4_OFFSET, IPV6};
 use crate::{neutral, peers, refusal, Answer, Form};
 use protocol::{
-    put_octets, put_operators, put_placed_refusal, put_refusal, put_rule, put_span, put_values,
-    text, words,
+    put_distinguisher, put_octets, put_operators, put_placed_refusal, put_refusal, put_rule,
+    put_span, put_values, text, words,
 };
-use standard::{Flow, Packet, Refusal, Rule};
+use standard::{Content, Fault, Flow, Packet, Reading, Refusal, Rule};
 use std::cmp::Ordering;
 use std::fmt::{self, Display, Formatter};
 
@@ -19,9 +19,11 @@ pub enum Request {
         values: usize,
         octets: usize,
     },
-    /// A reading, so many places lent in each list, that tells where it broke.
+    /// A reading that expects a distinguisher or none, so many places lent in each list, and tells
+    /// where it broke.
     ReadPlaced {
         family: u8,
+        is_distinguished: bool,
         input: Vec<u8>,
         places: usize,
     },
@@ -45,7 +47,12 @@ pub enum Request {
         one: Vec<u8>,
         other: Vec<u8>,
     },
+    /// Of rules without a distinguisher.
     Choose {
+        packet: Packet,
+        flows: Vec<Flow>,
+    },
+    Decide {
         packet: Packet,
         flows: Vec<Flow>,
     },
@@ -66,10 +73,12 @@ impl Display for Request {
             ],
             Request::ReadPlaced {
                 family,
+                is_distinguished,
                 input,
                 places,
             } => vec![
-                format!("std_read\t{family}\t-"),
+                format!("std_read\t{family}"),
+                if *is_distinguished { "rd" } else { "-" }.to_string(),
                 hex(input),
                 places.to_string(),
             ],
@@ -94,7 +103,18 @@ impl Display for Request {
                 vec![format!("rank\t{family}"), hex(one), hex(other)]
             }
             Request::Choose { packet, flows } => {
-                vec!["choose".to_string(), packet_text(packet), flows_text(flows)]
+                let flow = |flow: &Flow| format!("{}={}", flow.family, rule_text(&flow.rule));
+                let rules = flows_text(flows, flow);
+                vec!["choose".to_string(), packet_text(packet), rules]
+            }
+            Request::Decide { packet, flows } => {
+                let flow = |flow: &Flow| {
+                    let distinguisher = distinguisher_text(&flow.rule);
+                    let rule = rule_text(&flow.rule);
+                    format!("{}!{distinguisher}!{rule}", flow.family)
+                };
+                let packet = format!("p:{}", packet_text(packet));
+                vec!["decide".to_string(), packet, flows_text(flows, flow)]
             }
         };
         write!(f, "{}", fields.join("\t"))
@@ -110,18 +130,27 @@ impl Request {
                 input,
                 values,
                 octets,
-            } => match read(*family, input, (*values).min(*octets)) {
-                Ok((used, operators, rule)) => format!("ok {used} {operators} {rule}"),
+            } => match read(standard::read(*family, input), *values.min(octets)) {
+                Ok((told, rule)) => format!("{told} {}", rule_text(&rule)),
                 Err(answer) => refused(answer),
             },
             Request::ReadPlaced {
                 family,
+                is_distinguished,
                 input,
                 places,
-            } => match read(*family, input, *places) {
-                Ok((used, operators, rule)) => format!("ok {used} {operators} - {rule}"),
-                Err(answer) => refused_at(answer),
-            },
+            } => {
+                let reading = match is_distinguished {
+                    true => standard::read_distinguished(*family, input),
+                    false => standard::read(*family, input),
+                };
+                match read(reading, *places) {
+                    Ok((told, rule)) => {
+                        format!("{told} {} {}", distinguisher_text(&rule), rule_text(&rule))
+                    }
+                    Err(answer) => refused_at(answer),
+                }
+            }
             Request::PlainPlace { input } => match peers::plain_used(input) {
                 answer if answer.is_accepted() => format!("ok {}", answer.first),
                 answer => refused_at(answer),
@@ -147,27 +176,36 @@ impl Request {
                 Err(refusal) => refused(peers::standard_refusal(refusal)),
             },
             Request::Choose { packet, flows } => match standard::choose(flows, packet) {
-                Ok(Some(place)) => format!("ok {place}"),
-                Ok(None) => "ok none".to_string(),
+                Ok(place) => chosen(place),
                 Err(refusal) => refused(peers::standard_refusal(refusal)),
+            },
+            Request::Decide { packet, flows } => match standard::choose(flows, packet) {
+                Ok(place) => chosen(place),
+                Err(refusal) => refused_at(peers::standard_refusal(refusal)),
             },
         }
     }
 }
 
-/// The octets used, the operators, and the rule.
-fn read(family: u8, input: &[u8], places: usize) -> Result<(u64, u64, String), Answer> {
-    let mut stored = Stored::new(0);
-    let answer = peers::read(Form::Standard(family), input, &mut stored);
-    if !answer.is_accepted() {
-        return Err(answer);
+/// What an accepted reading tells before the rule, and the rule.
+fn read(reading: Result<Reading, Fault>, places: usize) -> Result<(String, Rule), Answer> {
+    let Reading { rule, used } = reading.map_err(peers::standard_fault)?;
+    let operators = rule.components.iter().map(|one| match &one.content {
+        Content::Prefix(_) => 0,
+        Content::List(list) => list.len(),
+    });
+    let operators: usize = operators.sum();
+    if places < operators {
+        return Err(Answer::refused(refusal::NO_ROOM, operators as u64, 0));
     }
-    let (used, operators) = (answer.first, answer.second);
-    if places < operators as usize {
-        return Err(Answer::refused(refusal::NO_ROOM, operators, 0));
+    Ok((format!("ok {used} {operators}"), rule))
+}
+
+fn chosen(place: Option<usize>) -> String {
+    match place {
+        Some(place) => format!("ok {place}"),
+        None => "ok none".to_string(),
     }
-    let rule = standard::read(family, input).expect("it was read").rule;
-    Ok((used, operators, rule_text(&rule)))
 }
 
 fn write(family: u8, record: &Stored, room: usize) -> String {
@@ -212,14 +250,18 @@ pub fn hex(octets: &[u8]) -> String {
     text(|out| put_octets(octets, out))
 }
 
-fn flows_text(flows: &[Flow]) -> String {
-    let flow = |flow: &Flow| format!("{}={}", flow.family, rule_text(&flow.rule));
+fn flows_text(flows: &[Flow], flow: impl Fn(&Flow) -> String) -> String {
     match flows {
         [] => ".".to_string(),
         _ => flows.iter().map(flow).collect::<Vec<String>>().join("&"),
     }
 }
 
+fn distinguisher_text(rule: &Rule) -> String {
+    text(|out| put_distinguisher(rule.distinguisher, out))
+}
+
+/// The components of a rule.
 pub fn rule_text(rule: &Rule) -> String {
     let components = rule.components.iter().map(neutral::component);
     text(|out| put_rule(components, put_operators, out))
@@ -232,7 +274,7 @@ fn components_text(words: &[u64]) -> String {
 }
 
 /// Whether a text can say these words: at most 13 components of known types and forms, the rule's
-/// first place 0, its family the one that is asked for.
+/// first place 0, its family the one that is asked for, no distinguisher.
 pub fn can_be_said(family: u8, words: &[u64]) -> bool {
     let said = |group: &[u64]| match (group[0] % 16, group[0] / 16) {
         (1 | 2, IPV4) => group[1] < 256 && group[2] >> 32 == 0 && group[3] == 0,

@@ -1,13 +1,16 @@
-//! The requests whose answers are stored in `tests/standard-answers`: document 01's cases, the RFCs'
-//! worked examples, edges of each call, and random ones; and for each reading that is refused, here
-//! and among those that `crates/replay/stdin` stores with the original's answers, the call that tells
-//! where it broke. The same in every run.
+//! The requests whose answers are stored in `tests/standard-answers`: document 01's cases, the
+//! RFCs' worked examples, edges of each call, and random ones; for each reading that is refused,
+//! here and among those that `crates/replay/stdin` stores with the original's answers, the call
+//! that tells where it broke; and readings that expect a distinguisher and choices among rules that
+//! have one or not, in the calls that tell it (`std_read` with `rd`, `decide`). The same in every
+//! run.
 
 use crate::requests::{can_be_said, Request};
 use crate::stored::{Stored, FAMILY, FIRST};
 use crate::{flows, packets, records, Form, LONGEST_BODY, LONGEST_INPUT, MOST_COMPONENTS};
-use inputs::{framed, list_of, octets, Random, FIXED};
+use inputs::{framed, list_of, octets, Random, DISTINGUISHERS, FIXED};
 use standard::{Address, Component, Content, Flow, Operator, Packet, Rule};
+use standard::{Distinguisher, DISTINGUISHER_OCTETS};
 
 const FAMILIES: [u8; 2] = [4, 6];
 /// Places enough for what is short.
@@ -24,6 +27,8 @@ pub fn all() -> Vec<Request> {
     rankings(&mut random, &mut list);
     choices(&mut random, &mut list);
     places(&mut list);
+    distinguished_readings(&mut random, &mut list);
+    decisions(&mut random, &mut list);
     list
 }
 
@@ -84,6 +89,7 @@ fn places(list: &mut Vec<Request>) {
             octets,
         } => Some(Request::ReadPlaced {
             family: *family,
+            is_distinguished: false,
             input: input.clone(),
             places: *values.min(octets),
         }),
@@ -537,7 +543,10 @@ fn bad_rules(family: u8) -> Vec<Flow> {
         vec![prefix(six(1), 127, Some(0))],
         vec![prefix(six(1 << 127), 128, Some(1))],
     ];
-    let rule = |components: Vec<Component>| Rule { components };
+    let rule = |components: Vec<Component>| Rule {
+        distinguisher: None,
+        components,
+    };
     let mut bad: Vec<Flow> = Vec::new();
     bad.extend(contents.map(|components| Flow {
         family,
@@ -548,4 +557,179 @@ fn bad_rules(family: u8) -> Vec<Flow> {
         rule: rule(Vec::new()),
     }));
     bad
+}
+
+/// A reading that expects a distinguisher.
+fn distinguished(family: u8, input: &[u8], places: usize) -> Request {
+    Request::ReadPlaced {
+        family,
+        is_distinguished: true,
+        input: input.to_vec(),
+        places,
+    }
+}
+
+/// The fixed inputs behind a distinguisher, put to all three readings; bodies that have no octet of
+/// one, some or all, stated in one octet and in two; some cut, with their length made right; places
+/// to spare and too few; bodies around the lengths where the length field changes; random ones.
+fn distinguished_readings(random: &mut Random, list: &mut Vec<Request>) {
+    for family in FAMILIES {
+        let form = Form::WithDistinguisher(family);
+        let fixed = inputs::good_inputs(form).into_iter().take(FIXED.len());
+        for input in fixed.collect::<Vec<_>>() {
+            list.push(distinguished(family, &input, PLACES));
+            list.push(Request::ReadPlaced {
+                family,
+                is_distinguished: false,
+                input: input.clone(),
+                places: PLACES,
+            });
+            if family == 4 {
+                list.push(Request::PlainPlace { input });
+            }
+        }
+        let body = [DISTINGUISHERS[1], [0x03; 8]].concat();
+        for stated in 0..=10 {
+            for there in [stated.max(1) - 1, stated, stated + 2] {
+                let octets = &body[..there];
+                for length in [&[stated as u8][..], &[0xF0, stated as u8]] {
+                    let input = [length, octets].concat();
+                    list.push(distinguished(family, &input, PLACES));
+                }
+            }
+        }
+        for (text, own) in [FIXED[27], FIXED[29], FIXED[32]].iter().zip(DISTINGUISHERS) {
+            let body = [&own[..], &octets(text)[1..]].concat();
+            for end in 0..body.len() {
+                list.push(distinguished(family, &framed(&body[..end]), PLACES));
+            }
+        }
+        let ports = [&DISTINGUISHERS[2][..], &octets(FIXED[21])[1..]].concat();
+        for places in 0..5 {
+            list.push(distinguished(family, &framed(&ports), places));
+        }
+        for length in (237..=242).chain([255, 256]) {
+            let body = list_of(4, length - DISTINGUISHER_OCTETS, (length % 4) as u8);
+            let input = framed(&[&DISTINGUISHERS[7][..], &body].concat());
+            list.push(distinguished(family, &input, 200));
+        }
+        // Too few places: the answers to those that are accepted would be long.
+        for (code, places) in [(0, 2042), (3, 400)] {
+            let body = list_of(10, LONGEST_BODY - DISTINGUISHER_OCTETS, code);
+            let input = framed(&[&DISTINGUISHERS[0][..], &body].concat());
+            list.push(distinguished(family, &input, places));
+        }
+        let mut input = Vec::new();
+        for turn in 0..200 {
+            inputs::random(form, random, &mut input);
+            input.truncate(56);
+            let places = if turn % 8 == 0 {
+                random.below(6)
+            } else {
+                PLACES
+            };
+            list.push(distinguished(family, &input, places));
+        }
+    }
+    for family in [0, 5, 255] {
+        for text in ["", "00", "08 00 00 FB F0 00 00 00 07"] {
+            list.push(distinguished(family, &octets(text), PLACES));
+        }
+    }
+}
+
+fn decided(packet: &Packet, flows: &[Flow]) -> Request {
+    let (packet, flows) = (packet.clone(), flows.to_vec());
+    Request::Decide { packet, flows }
+}
+
+/// The rules with these distinguishers, in turn.
+fn with(distinguishers: &[Option<Distinguisher>], flows: &[Flow]) -> Vec<Flow> {
+    let mut flows = flows.to_vec();
+    for (flow, own) in flows.iter_mut().zip(distinguishers.iter().cycle()) {
+        flow.rule.distinguisher = *own;
+    }
+    flows
+}
+
+/// The three addresses with each distinguisher; those that differ, at each place and in both
+/// families; every refusal that comes before; rules as long as they may be with one, and longer;
+/// random tables.
+fn decisions(random: &mut Random, list: &mut Vec<Request>) {
+    let nets = [flow(4, "03 01 08 0A"), flow(4, "04 01 10 0A 01")];
+    let [zero, own, ..] = DISTINGUISHERS.map(Some);
+    for destination in [0x0A01_0203, 0x0A02_0001, 0x0B00_0001] {
+        let packet = Packet {
+            destination,
+            ..full(4)
+        };
+        for distinguishers in [
+            [None, None],
+            [zero, zero],
+            [own, own],
+            [None, zero],
+            [zero, None],
+            [own, None],
+            [own, zero],
+        ] {
+            list.push(decided(&packet, &with(&distinguishers, &nets)));
+        }
+    }
+    for family in FAMILIES {
+        mixed_decisions(family, list);
+        for _ in 0..150 {
+            let mut rules = vec![flows::good(family, random)];
+            for _ in 0..random.below(6) {
+                let like = flows::like(&rules[random.below(rules.len())], random).0;
+                rules.push(like);
+            }
+            flows::distinguish(&mut rules.iter_mut().collect::<Vec<_>>(), random);
+            let packet = packets::near(&rules[random.below(rules.len())], random).0;
+            if rules.iter().all(|rule| short(rule).is_some()) {
+                list.push(decided(&packet, &rules));
+            }
+        }
+    }
+}
+
+fn mixed_decisions(family: u8, list: &mut Vec<Request>) {
+    let [zero, own, other, ..] = DISTINGUISHERS.map(Some);
+    let every = flow(family, "00");
+    let (fine, mut wrong) = (full(family), full(family));
+    wrong.dscp = 64;
+    list.push(decided(&fine, &[]));
+    list.push(decided(&wrong, &[]));
+    let tables: [(usize, &[usize]); 5] = [
+        (1, &[0]),
+        (2, &[0, 1]),
+        (5, &[0, 1, 2, 4]),
+        (64, &[63]),
+        (65, &[1]),
+    ];
+    for (count, places) in tables {
+        let rules = vec![every.clone(); count];
+        for (most, one) in [(None, zero), (zero, None), (own, other), (own, own)] {
+            for &place in places {
+                let mut rules = with(&[most], &rules);
+                rules[place].rule.distinguisher = one;
+                list.push(decided(&fine, &rules));
+                list.push(decided(&wrong, &rules));
+                // One of the other family, behind all.
+                rules[count - 1].family = 10 - family;
+                list.push(decided(&fine, &rules));
+            }
+        }
+    }
+    for bad in bad_rules(family) {
+        let rules = [every.clone(), bad];
+        for distinguishers in [[own, own], [own, None], [None, zero]] {
+            list.push(decided(&fine, &with(&distinguishers, &rules)));
+        }
+    }
+    for (distinguisher, length) in [(None, 4088), (own, 4087), (own, 4088), (zero, 4095)] {
+        let reading = standard::read(family, &framed(&list_of(4, length, 3)));
+        let rule = reading.expect("these are accepted").rule;
+        let rules = [every.clone(), Flow { family, rule }];
+        list.push(decided(&fine, &with(&[distinguisher], &rules)));
+    }
 }

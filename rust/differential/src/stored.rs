@@ -1,16 +1,16 @@
 //! A rule as the proved code stores it: 64 words, its operators in two lists beside each other.
 //!
 //! Thirteen groups of four words hold the components, then come the count, the family (0 for a
-//! plain rule) and the place in the lists where the rule's operators begin, then nine words of 0.
-//! A prefix: type + 16 x form, length + 256 x offset, and the address in two words, one of them
-//! for IPv4. A list: type, start (counted from the rule's first place), count, 0. An unused
-//! group is 0.
+//! plain rule), the place in the lists where the rule's operators begin, 1 and the distinguisher as
+//! a number, its first octet the highest, or 0 and 0 where there is none, then seven words of 0. A
+//! prefix: type + 16 x form, length + 256 x offset, and the address in two words, one of them for
+//! IPv4. A list: type, start (counted from the rule's first place), count, 0. An unused group is 0.
 
 use crate::{neutral, MOST_COMPONENTS, MOST_OPERATORS};
 use oracle::flowspec::FlowSpecNlri;
 use oracle::records;
 use protocol::{words, Address, Component, Content, Operator, Prefix};
-use standard::{Flow, Rule};
+use standard::{Distinguisher, Flow, Rule};
 use std::ops::Range;
 
 pub use protocol::words::{IPV4, IPV4_OFFSET, IPV6, IPV6_OFFSET};
@@ -20,6 +20,10 @@ pub const WORDS: usize = 64;
 pub const COUNT: usize = 4 * MOST_COMPONENTS;
 pub const FAMILY: usize = COUNT + 1;
 pub const FIRST: usize = COUNT + 2;
+/// Whether there is a distinguisher; the next word is the distinguisher.
+pub const DISTINGUISHED: usize = COUNT + 3;
+/// The words after that, which are 0.
+pub const UNUSED: usize = COUNT + 5;
 
 /// A rule's words with the lists that they speak of, which need not be equally long.
 #[derive(Debug, Clone, PartialEq, Eq)]
@@ -99,6 +103,12 @@ impl Stored {
         }
     }
 
+    /// Gives the rule this distinguisher, or none.
+    pub fn put_distinguisher(&mut self, distinguisher: Option<Distinguisher>) {
+        let words = distinguisher.map_or([0, 0], |octets| [1, u64::from_be_bytes(octets)]);
+        self.words[DISTINGUISHED..UNUSED].copy_from_slice(&words);
+    }
+
     /// Puts a rule of the original Rust in place of what is here.
     pub fn put_original(&mut self, rule: &FlowSpecNlri) {
         self.clear(0);
@@ -113,8 +123,9 @@ impl Stored {
         self.push_rule(rule);
     }
 
-    /// Adds the components of a rule.
+    /// Adds the components of a rule, and gives it its distinguisher.
     pub fn push_rule(&mut self, rule: &Rule) {
+        self.put_distinguisher(rule.distinguisher);
         for component in &rule.components {
             self.push_component(neutral::component(component));
         }
@@ -125,42 +136,57 @@ impl Stored {
 /// name none stand as a rule of family 0, which whoever asks for a rule's family refuses alike.
 pub fn flow(words: &[u64], values: &[u64], octets: &[u8]) -> Flow {
     let places = values.len().min(octets.len());
-    match parts(words, places) {
-        Some(parts) => Flow {
+    match named(words, places) {
+        Some(named) => Flow {
             family: words[FAMILY] as u8,
-            rule: standard_rule(&parts, values, octets),
+            rule: standard_rule(&named, values, octets),
         },
         None => Flow {
             family: 0,
             rule: Rule {
+                distinguisher: None,
                 components: Vec::new(),
             },
         },
     }
 }
 
-/// A component that words name, a list by its places in the lent lists.
-pub type Part = Component<Range<usize>>;
+/// The rule that words name, its lists by their places in the lent ones.
+pub struct Named {
+    distinguisher: Option<Distinguisher>,
+    parts: Vec<Part>,
+}
 
-/// The components that words name in lists of so many places. Nothing where they are a BadRecord
-/// of every writing: too few, no stored form, over a maximum, a prefix length over its address's, or
+type Part = Component<Range<usize>>;
+
+/// The rule that words name in lists of so many places. Nothing where they are a BadRecord of every
+/// writing: too few, no stored form, over a maximum, a prefix length over its address's, or
 /// operators outside the lists. A list of no operators names none, wherever it starts.
-pub fn parts(words: &[u64], places: usize) -> Option<Vec<Part>> {
+pub fn named(words: &[u64], places: usize) -> Option<Named> {
     let words = words.get(..WORDS)?;
     if words[COUNT] > MOST_COMPONENTS as u64 || words[FAMILY] > 255 {
         return None;
     }
     let (used, unused) = words[..COUNT].split_at(4 * words[COUNT] as usize);
-    let mut zeros = unused.iter().chain(&words[FIRST + 1..]);
+    let mut zeros = unused.iter().chain(&words[UNUSED..]);
     if zeros.any(|&word| word != 0) {
         return None;
     }
+    let distinguisher = match words[DISTINGUISHED..UNUSED] {
+        [0, 0] => None,
+        [1, number] => Some(number.to_be_bytes()),
+        _ => return None,
+    };
     let groups = used.chunks(4);
     let parts = groups.map(|group| part(group, words[FIRST], places));
     let parts: Vec<Part> = parts.collect::<Option<_>>()?;
     // A count is at most `places`, so the sum is within a word.
     let operators: usize = parts.iter().map(operators_in).sum();
-    Some(parts).filter(|_| operators <= MOST_OPERATORS)
+    let named = Named {
+        distinguisher,
+        parts,
+    };
+    Some(named).filter(|_| operators <= MOST_OPERATORS)
 }
 
 fn part(group: &[u64], first: u64, places: usize) -> Option<Part> {
@@ -227,17 +253,18 @@ fn filled<'a>(
     })
 }
 
-/// The rule of the original Rust that has these components.
-pub fn original(parts: &[Part], values: &[u64], octets: &[u8]) -> FlowSpecNlri {
+/// The rule of the original Rust that has these components. It knows no distinguisher.
+pub fn original(named: &Named, values: &[u64], octets: &[u8]) -> FlowSpecNlri {
     let component = |part| records::original(filled(part, values, octets));
-    let components = parts.iter().map(component).collect::<Option<_>>();
+    let components = named.parts.iter().map(component).collect::<Option<_>>();
     FlowSpecNlri::new(components.expect("types and lengths were tested"))
 }
 
-/// The rule with these components in the form that the RFCs' writing takes.
-pub fn standard_rule(parts: &[Part], values: &[u64], octets: &[u8]) -> Rule {
+/// The rule in the form that the RFCs' writing takes.
+pub fn standard_rule(named: &Named, values: &[u64], octets: &[u8]) -> Rule {
     let component = |part| neutral::standard(filled(part, values, octets));
     Rule {
-        components: parts.iter().map(component).collect(),
+        distinguisher: named.distinguisher,
+        components: named.parts.iter().map(component).collect(),
     }
 }

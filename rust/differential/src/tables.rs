@@ -40,7 +40,8 @@ pub fn random(random: &mut Random) -> (Stored, Vec<u64>, &'static str) {
         14 => 16 + random.below(32),
         _ => MOST_RULES - random.below(3),
     };
-    let rules = rules(family, count, random);
+    let mut rules = rules(family, count, random);
+    let differ = flows::distinguish(&mut rules.iter_mut().collect::<Vec<_>>(), random);
     let aim = match rules.is_empty() {
         true => flows::good(family, random),
         false => rules[random.below(rules.len())].clone(),
@@ -49,6 +50,7 @@ pub fn random(random: &mut Random) -> (Stored, Vec<u64>, &'static str) {
     let mut packet = packets::words(&packet).to_vec();
     let mut table = store_all(&rules, random);
     let mut what = match rules.len() {
+        _ if differ => "distinguishers that differ",
         0 => "no rules",
         1 => "one rule",
         2..=8 => "2 to 8 rules",
@@ -104,7 +106,7 @@ fn store_all(rules: &[Flow], random: &mut Random) -> Stored {
 fn fault(table: &mut Stored, packet: &mut Vec<u64>, random: &mut Random) -> &'static str {
     let rules = table.words.len() / WORDS;
     let at = random.below(rules.max(1)) * WORDS;
-    match random.below(9) {
+    match random.below(10) {
         0 if packet.len() == packets::WORDS => {
             packets::spoil(random, packet);
             "a packet spoiled"
@@ -138,6 +140,10 @@ fn fault(table: &mut Stored, packet: &mut Vec<u64>, random: &mut Random) -> &'st
             "too many rules"
         }
         7 if rules != 0 && widen_rule(table, at, random) => "a value too wide for its type",
+        8 if rules != 0 => {
+            records::damage_distinguisher(random, &mut table.words[at..at + WORDS]);
+            "a distinguisher damaged"
+        }
         _ => {
             shorten_lists(table, random);
             "lists too short"

@@ -4,7 +4,7 @@
 //! same refusal at the same place. It goes over the octets once, keeps nothing and allocates nothing.
 
 use crate::{Form, LONGEST_INPUT};
-use standard::{Fault, Refusal};
+use standard::{Fault, Refusal, DISTINGUISHER_OCTETS};
 
 /// What an accepted rule takes: octets, those of its length among them, and places for operators.
 #[derive(Debug, Clone, Copy, PartialEq, Eq)]
@@ -30,9 +30,11 @@ pub fn check(form: Form, input: &[u8]) -> Result<Checked, Fault> {
             return Err(Refusal::InputTooLong(input.len()).into())
         }
         Form::Plain => Reading::Plain,
-        Form::Standard(4) => Reading::Ipv4,
-        Form::Standard(6) => Reading::Ipv6,
-        Form::Standard(family) => return Err(Refusal::BadFamily(family).into()),
+        Form::Standard(4) | Form::WithDistinguisher(4) => Reading::Ipv4,
+        Form::Standard(6) | Form::WithDistinguisher(6) => Reading::Ipv6,
+        Form::Standard(family) | Form::WithDistinguisher(family) => {
+            return Err(Refusal::BadFamily(family).into())
+        }
     };
     let (from, length) = match *input {
         [first, ..] if first < 240 => (1, usize::from(first)),
@@ -48,7 +50,14 @@ pub fn check(form: Form, input: &[u8]) -> Result<Checked, Fault> {
         Reading::Plain => input,
         _ => &input[..end],
     };
-    let (mut at, mut previous, mut operators) = (from, 0, 0);
+    let mut at = from;
+    if let Form::WithDistinguisher(_) = form {
+        if length < DISTINGUISHER_OCTETS {
+            return Err(Refusal::ShortDistinguisher.at(end));
+        }
+        at += DISTINGUISHER_OCTETS;
+    }
+    let (mut previous, mut operators) = (0, 0);
     while at < end {
         let found = octets[at];
         if found <= previous {

@@ -1,22 +1,24 @@
 //! The straightforward Rust chooser over rules as they are stored, to time the proved one beside it.
 //!
-//! It is lent what the proved one is: the words of the rules, their operators in two lists, the words
-//! of a packet. It makes the same checks: the number of rules, the packet, then of each rule that
-//! its words are a record and that the standard writing takes it, the families. Then it goes
-//! over the rules once more and keeps the best that matches. Prefixes are looked at where they
-//! stand, lists are asked what `standard::direct` asks; nothing is allocated.
+//! It is lent what the proved one is: the words of the rules, their operators in two lists, the
+//! words of a packet. It makes the same checks: the number of rules, the packet, then of each rule
+//! that its words are a record and that the standard writing takes it, the families, the
+//! distinguishers. Then it goes over the rules once more and keeps the best that matches. Prefixes
+//! are looked at where they stand, lists are asked what `standard::direct` asks; nothing is
+//! allocated.
 
 use crate::packets;
-use crate::stored::{Stored, COUNT, FAMILY, FIRST, IPV4, IPV6_OFFSET, WORDS};
+use crate::stored::{Stored, COUNT, DISTINGUISHED, FAMILY, FIRST, UNUSED, WORDS};
+use crate::stored::{IPV4, IPV6_OFFSET};
 use crate::{LONGEST_BODY, MOST_COMPONENTS, MOST_OPERATORS, MOST_RULES};
-use standard::{direct, Operator, Packet, Refusal};
+use standard::{direct, Operator, Packet, Refusal, DISTINGUISHER_OCTETS};
 use std::cmp::Ordering;
 
 /// The place of the rule that decides.
 pub fn choose(table: &Stored, packet: &[u64]) -> Result<Option<usize>, Refusal> {
     let words = table.words.chunks_exact(WORDS);
     let left_over = !words.remainder().is_empty();
-    let rules = words.map(|words| Lent::new(words, table));
+    let rules = words.map(|words| Lent::new(words, &table.values, &table.octets));
     if rules.len() > MOST_RULES {
         return Err(Refusal::TooManyRules(rules.len()));
     }
@@ -30,6 +32,11 @@ pub fn choose(table: &Stored, packet: &[u64]) -> Result<Option<usize>, Refusal> 
     let is_other = |rule: Lent| rule.words[FAMILY] != packet.family;
     if let Some(place) = rules.clone().position(is_other) {
         return Err(Refusal::MixedFamily(place));
+    }
+    let first = rules.clone().next().map(Lent::distinguisher);
+    let differs = |rule: Lent| Some(rule.distinguisher()) != first;
+    if let Some(place) = rules.clone().position(differs) {
+        return Err(Refusal::MixedDistinguisher(place));
     }
     let mut best: Option<(usize, Lent)> = None;
     for (place, rule) in rules.enumerate() {
@@ -46,19 +53,22 @@ pub fn rank(one: &Stored, other: &Stored) -> Result<Ordering, Refusal> {
     if one.words.len() < WORDS || other.words.len() < WORDS {
         return Err(Refusal::BadRecord);
     }
-    let (one, other) = (Lent::new(&one.words, one), Lent::new(&other.words, other));
+    let [one, other] = [one, other].map(|rule| Lent::new(&rule.words, &rule.values, &rule.octets));
     if !one.is_well_formed() || !other.is_well_formed() {
         return Err(Refusal::BadRecord);
     }
     if one.words[FAMILY] != other.words[FAMILY] {
         return Err(Refusal::MixedFamily(1));
     }
+    if one.distinguisher() != other.distinguisher() {
+        return Err(Refusal::MixedDistinguisher(1));
+    }
     Ok(order(one, other))
 }
 
 /// A rule's words and the lists that they speak of, equally long.
 #[derive(Clone, Copy)]
-struct Lent<'a> {
+pub(crate) struct Lent<'a> {
     words: &'a [u64],
     values: &'a [u64],
     octets: &'a [u8],
@@ -66,28 +76,33 @@ struct Lent<'a> {
 
 /// The words of a component: type + 16 x form, then length + 256 x offset and an address, or start
 /// and count.
-type Group = [u64; 4];
+pub(crate) type Group = [u64; 4];
 
 impl<'a> Lent<'a> {
     /// The rule at the front of at least 64 words.
-    fn new(words: &'a [u64], lists: &'a Stored) -> Self {
-        let places = lists.values.len().min(lists.octets.len());
+    pub(crate) fn new(words: &'a [u64], values: &'a [u64], octets: &'a [u8]) -> Self {
+        let places = values.len().min(octets.len());
         Lent {
             words: &words[..WORDS],
-            values: &lists.values[..places],
-            octets: &lists.octets[..places],
+            values: &values[..places],
+            octets: &octets[..places],
         }
     }
 
+    /// The distinguisher's words: 1 and its number, or 0 and 0.
+    pub(crate) fn distinguisher(self) -> [u64; 2] {
+        [self.words[DISTINGUISHED], self.words[DISTINGUISHED + 1]]
+    }
+
     /// The components in turn, of which there must not be too many.
-    fn groups(self) -> impl Iterator<Item = Group> + 'a {
+    pub(crate) fn groups(self) -> impl Iterator<Item = Group> + 'a {
         let used = &self.words[..4 * self.words[COUNT] as usize];
         used.chunks_exact(4)
             .map(|group| [group[0], group[1], group[2], group[3]])
     }
 
     /// The operators of a list, if they are within the lent lists.
-    fn list(
+    pub(crate) fn list(
         self,
         [_, start, count, _]: Group,
     ) -> Option<impl Iterator<Item = Operator> + Clone + 'a> {
@@ -99,16 +114,28 @@ impl<'a> Lent<'a> {
     }
 
     fn is_well_formed(self) -> bool {
-        let (count, family) = (self.words[COUNT], self.words[FAMILY]);
-        if count > MOST_COMPONENTS as u64 || ![4, 6].contains(&family) {
-            return false;
+        let family = self.words[FAMILY];
+        let body = || self.body_octets(family);
+        [4, 6].contains(&family) && body().map_or(false, |octets| octets <= LONGEST_BODY)
+    }
+
+    /// The octets of the body that the rule is written with in a family, 4 or 6, if its words are a
+    /// record that the standard writing takes.
+    pub(crate) fn body_octets(self, family: u64) -> Option<usize> {
+        let count = self.words[COUNT];
+        if count > MOST_COMPONENTS as u64 || self.words[FAMILY] > 255 {
+            return None;
         }
         let is_empty = |words: &[u64]| words.iter().all(|&word| word == 0);
-        if !is_empty(&self.words[4 * count as usize..COUNT]) || !is_empty(&self.words[FIRST + 1..])
-        {
-            return false;
+        if !is_empty(&self.words[4 * count as usize..COUNT]) || !is_empty(&self.words[UNUSED..]) {
+            return None;
         }
-        let (mut previous, mut operators, mut body) = (0, 0, 0);
+        let mut body = match self.distinguisher() {
+            [0, 0] => 0,
+            [1, _] => DISTINGUISHER_OCTETS,
+            _ => return None,
+        };
+        let (mut previous, mut operators) = (0, 0);
         for group in self.groups() {
             let (kind, form) = (group[0] % 16, group[0] / 16);
             let octets = match (kind, form, family) {
@@ -122,11 +149,11 @@ impl<'a> Lent<'a> {
             };
             match octets {
                 Some(octets) if kind > previous => body += octets,
-                _ => return false,
+                _ => return None,
             }
             previous = kind;
         }
-        operators <= MOST_OPERATORS as u64 && body <= LONGEST_BODY
+        Some(body).filter(|_| operators <= MOST_OPERATORS as u64)
     }
 
     /// Whether the rule, which is well-formed, matches.
@@ -142,7 +169,7 @@ impl<'a> Lent<'a> {
 }
 
 /// The address of a prefix, as a packet has it.
-fn address([named, _, high, low]: Group) -> u128 {
+pub(crate) fn address([named, _, high, low]: Group) -> u128 {
     match named / 16 {
         IPV4 => high.into(),
         _ => u128::from(high) << 64 | u128::from(low),

@@ -9,6 +9,18 @@ pub enum Form {
     Plain,
     /// By the RFCs, with the family that is asked for: 4, 6, or another, which is refused.
     Standard(u8),
+    /// As that, of a rule that has a distinguisher: the reading expects one.
+    WithDistinguisher(u8),
+}
+
+impl Form {
+    /// The family that is asked for, if it is a form by the RFCs.
+    pub fn family(self) -> Option<u8> {
+        match self {
+            Form::Plain => None,
+            Form::Standard(family) | Form::WithDistinguisher(family) => Some(family),
+        }
+    }
 }
 
 impl Display for Form {
@@ -16,6 +28,9 @@ impl Display for Form {
         match self {
             Form::Plain => write!(f, "plain"),
             Form::Standard(family) => write!(f, "standard (family {family})"),
+            Form::WithDistinguisher(family) => {
+                write!(f, "standard (family {family}, with a distinguisher)")
+            }
         }
     }
 }

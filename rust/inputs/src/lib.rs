@@ -8,4 +8,4 @@ mod readings;
 pub use form::{Form, LONGEST_BODY, LONGEST_INPUT};
 pub use random::Random;
 pub use readings::{by_rule, framed, good_inputs, list_of, most_code, octets, random};
-pub use readings::{Take, DOCUMENTED, FIXED, LONG_LISTS};
+pub use readings::{distinguisher, Take, DISTINGUISHERS, DOCUMENTED, FIXED, LONG_LISTS};

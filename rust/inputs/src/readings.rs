@@ -60,6 +60,23 @@ pub const FIXED: [&str; 45] = [
     "0B 03 81 06 0C 01 01 E2 00 00 00 02",
 ];
 
+/// Distinguishers: none of whose octets is set; the types 0, 1 and 2; the first bit, the last and
+/// every one; one whose octets all differ; some that the readings which expect none take for
+/// components, two IPv4 prefixes, an IPv6 prefix and a list of protocols.
+pub const DISTINGUISHERS: [[u8; 8]; 11] = [
+    [0; 8],
+    [0x00, 0x00, 0xFB, 0xF0, 0x00, 0x00, 0x00, 0x07],
+    [0x00, 0x01, 0xC0, 0x00, 0x02, 0x01, 0x00, 0x07],
+    [0x00, 0x02, 0x00, 0x01, 0x00, 0x0A, 0x00, 0x07],
+    [0x80, 0, 0, 0, 0, 0, 0, 0],
+    [0, 0, 0, 0, 0, 0, 0, 1],
+    [0xFF; 8],
+    [0x01, 0x23, 0x45, 0x67, 0x89, 0xAB, 0xCD, 0xEF],
+    [0x01, 0x18, 0xC0, 0x00, 0x02, 0x02, 0x08, 0x0A],
+    [0x01, 0x28, 0x00, 0x20, 0x01, 0x0D, 0xB8, 0x02],
+    [0x03, 0x01, 0x06, 0x01, 0x11, 0x91, 0x00, 0x2F],
+];
+
 /// The octets that a text in hex stands for, with blanks between them.
 pub fn octets(text: &str) -> Vec<u8> {
     let octets = text
@@ -74,8 +91,9 @@ pub fn octets(text: &str) -> Vec<u8> {
 /// or 3, so that the codes up to it are those without other bits.
 pub fn most_code(form: Form, kind: u8) -> u8 {
     match (form, kind) {
-        (Form::Standard(_), 9) => 1,
-        (Form::Standard(_), 11 | 12) => 0,
+        (Form::Plain, _) => 3,
+        (_, 9) => 1,
+        (_, 11 | 12) => 0,
         _ => 3,
     }
 }
@@ -83,20 +101,82 @@ pub fn most_code(form: Form, kind: u8) -> u8 {
 /// All inputs that are made by rule.
 pub fn by_rule(form: Form, take: Take) {
     short(take);
+    match form {
+        Form::WithDistinguisher(family) => {
+            short_distinguishers(take);
+            let mut made = Vec::new();
+            let mut next = DISTINGUISHERS.iter().cycle();
+            components(Form::Standard(family), &mut |input| {
+                let distinguisher = next.next().expect("they come in turn without end");
+                put_before_body(distinguisher, input, &mut made);
+                take(&made);
+            });
+            long_bodies(&DISTINGUISHERS[1], take);
+        }
+        _ => {
+            components(form, take);
+            long_bodies(&[], take);
+        }
+    }
+    if form == Form::Standard(6) {
+        every_offset(take);
+    }
+    let good = good_inputs(form);
+    good.iter().for_each(|input| cuts(input, take));
+    good.iter().for_each(|input| restated(input, take));
+    long_inputs(take);
+}
+
+/// Inputs whose components are made by rule, of each kind, in every order and with each fault.
+fn components(form: Form, take: Take) {
     prefixes(form, take);
     operators(take);
     orders(form, take);
     faults(form, take);
-    let good = good_inputs(form);
-    good.iter().for_each(|input| cuts(input, take));
-    good.iter().for_each(|input| restated(input, take));
-    long_bodies(take);
-    long_inputs(take);
 }
 
 /// A random input: good, damaged, wrongly stated, or octets with little or no sense. One in ten may
-/// have values that are too wide.
+/// have values that are too wide. Where a distinguisher is expected, most have one.
 pub fn random(form: Form, random: &mut Random, input: &mut Vec<u8>) {
+    match form {
+        Form::WithDistinguisher(family) => random_distinguished(family, random, input),
+        _ => random_components(form, random, input),
+    }
+}
+
+/// Made for the reading without a distinguisher, and then most often with one before the body, now
+/// and then damaged with it; or so few octets that they are hardly one.
+fn random_distinguished(family: u8, random: &mut Random, input: &mut Vec<u8>) {
+    let mut without = Vec::new();
+    random_components(Form::Standard(family), random, &mut without);
+    let distinguisher = distinguisher(random);
+    match random.below(10) {
+        0 => {
+            input.clear();
+            input.extend(&without);
+        }
+        1 => {
+            let (stated, there) = (random.below(12), random.below(12));
+            let body: Vec<u8> = (0..there).map(|_| telling(random)).collect();
+            frame_anew(stated, random.once_in(8), &body, input);
+        }
+        2 => {
+            put_before_body(&distinguisher, &without, input);
+            damage(random, input);
+        }
+        _ => put_before_body(&distinguisher, &without, input),
+    }
+}
+
+/// One of those that are made by rule, or any octets.
+pub fn distinguisher(random: &mut Random) -> [u8; 8] {
+    match random.below(2) {
+        0 => random.pick(&DISTINGUISHERS),
+        _ => random.number().to_be_bytes(),
+    }
+}
+
+fn random_components(form: Form, random: &mut Random, input: &mut Vec<u8>) {
     input.clear();
     let way = random.below(1000);
     let widths = if way % 10 == 9 { Form::Plain } else { form };
@@ -135,7 +215,7 @@ fn short(take: Take) {
     }
 }
 
-/// Every prefix length with every number of octets behind it, in IPv6 also every offset; the
+/// Every prefix length with every number of octets behind it, in IPv6 also with some offsets; the
 /// stated end right, before the last octet and past it.
 fn prefixes(form: Form, take: Take) {
     let offsets: &[Option<u8>] = match form {
@@ -170,11 +250,9 @@ fn prefixes(form: Form, take: Take) {
             }
         }
     }
-    if form == Form::Standard(6) {
-        every_offset(take);
-    }
 }
 
+/// In IPv6, every prefix length with every offset and every number of octets behind them.
 fn every_offset(take: Take) {
     for length in 0..=255 {
         for offset in 0..=255 {
@@ -298,14 +376,45 @@ fn faults(form: Form, take: Take) {
     }
 }
 
-/// The fixed inputs, and random ones that are accepted; the same in every run.
+/// Bodies of up to ten octets under every stated length up to that and beyond it: no octet of a
+/// distinguisher, some, all, and more than that. The octets are those of each distinguisher.
+fn short_distinguishers(take: Take) {
+    let mut input = Vec::new();
+    for distinguisher in DISTINGUISHERS {
+        for behind in [&[0x00, 0x00][..], &[0x03, 0x81], &[0x0E, 0x03]] {
+            let octets = [&distinguisher[..], behind].concat();
+            for there in 0..=octets.len() {
+                for stated in 0..=octets.len() + 2 {
+                    for two_octets in [false, true] {
+                        frame_anew(stated, two_octets, &octets[..there], &mut input);
+                        take(&input);
+                    }
+                }
+            }
+        }
+    }
+}
+
+/// The fixed inputs, and random ones that are accepted; the same in every run. Where a
+/// distinguisher is expected, all with one.
 pub fn good_inputs(form: Form) -> Vec<Vec<u8>> {
+    let without = match form {
+        Form::WithDistinguisher(family) => Form::Standard(family),
+        _ => form,
+    };
     let mut inputs: Vec<Vec<u8>> = FIXED.iter().map(|text| octets(text)).collect();
     let mut random = Random::new(0xF10);
     for _ in 0..400 {
         let mut input = Vec::new();
-        rule(form, form, &mut random, &mut input);
+        rule(without, without, &mut random, &mut input);
         inputs.push(input);
+    }
+    if without != form {
+        for (input, own) in inputs.iter_mut().zip(DISTINGUISHERS.iter().cycle()) {
+            let mut made = Vec::new();
+            put_before_body(own, input, &mut made);
+            *input = made;
+        }
     }
     inputs
 }
@@ -353,13 +462,17 @@ pub const LONG_LISTS: [(u8, u8); 11] = [
 ];
 
 /// Bodies where the length takes a second octet, where its high part begins and at the longest, of
-/// each width; some of the longest with every truncation.
-fn long_bodies(take: Take) {
+/// each width, with so many octets in front; some of the longest with every truncation.
+fn long_bodies(front: &[u8], take: Take) {
+    let behind_front = |kind, length: usize, code| {
+        let list = list_of(kind, length - front.len(), code);
+        [front, &list].concat()
+    };
     let edges = (236..=243).chain(253..=259).chain([1024, 2303]);
     let mut input = Vec::new();
     for length in edges.chain(4086..=LONGEST_BODY) {
         for (kind, code) in LONG_LISTS {
-            let body = list_of(kind, length, code);
+            let body = behind_front(kind, length, code);
             for two_octets in [false, true] {
                 frame_anew(length, two_octets, &body, &mut input);
                 take(&input);
@@ -376,7 +489,7 @@ fn long_bodies(take: Take) {
         }
     }
     for code in 0..4 {
-        let input = framed(&list_of(4, LONGEST_BODY, code));
+        let input = framed(&behind_front(4, LONGEST_BODY, code));
         (0..input.len()).for_each(|end| take(&input[..end]));
     }
 }
@@ -592,6 +705,22 @@ fn component(form: Form, kind: u8) -> Vec<u8> {
 /// Octets that all differ, highest and lowest bits set: none lost, moved or masked goes unseen.
 fn ramp(count: usize) -> impl Iterator<Item = u8> {
     (1..=count).map(|place| (place * 0x22) as u8 | 0x81)
+}
+
+/// Makes an input with these octets before the body, which the stated length counts as far as a
+/// length goes. One that ends in its length field stays as it is.
+fn put_before_body(octets: &[u8], input: &[u8], made: &mut Vec<u8>) {
+    let (two_octets, stated) = match *input {
+        [first @ 0..=0xEF, ..] => (false, usize::from(first)),
+        [first, second, ..] => (true, usize::from(first & 0x0F) << 8 | usize::from(second)),
+        _ => {
+            made.clear();
+            made.extend(input);
+            return;
+        }
+    };
+    let stated = LONGEST_BODY.min(stated + octets.len());
+    frame_anew(stated, two_octets, &[octets, body_of(input)].concat(), made);
 }
 
 /// What stands behind the length field.

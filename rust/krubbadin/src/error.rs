@@ -107,8 +107,8 @@ impl Display for EncodingError {
 
 impl Error for EncodingError {}
 
-/// What the standard calls refuse with, and every call of [`crate::surface`]: the reason, and for a reading's refusals, 1 to 6, the place of
-/// the octet that is refused. `Display` says both.
+/// What the standard calls refuse with, and every call of [`crate::surface`]: the reason, and for a reading's refusals, 1 to 6 and 19, the
+/// place of the octet that is refused. `Display` says both.
 ///
 /// ```
 /// use krubbadin::{read, Family, Reason};
@@ -155,7 +155,7 @@ impl Refusal {
 
     /// The place of the octet that is refused, counted from 0 at the start of the input. An octet that is missing has the place just past
     /// the end that it is missing before: the input's end in the length's own octets and in the plain reading, the rule's stated end in a
-    /// standard one, or the input's where that comes first. `None` where no octet is refused: 7 to 14.
+    /// standard one, or the input's where that comes first. `None` where no octet is refused: 7 to 14 and 20.
     ///
     /// ```
     /// use krubbadin::{check, write, Family, FlowSpecComponent, FlowSpecNlri, Reason};
@@ -265,6 +265,12 @@ pub enum Reason {
     BadPacket,
     /// 14: the rule at this place is of another family than the packet, or than the rule that it is compared with.
     MixedFamily(usize),
+    /// 19, of the standard readings where a distinguisher is expected: the stated length leaves less than its eight octets. The place is the
+    /// stated end.
+    ShortDistinguisher,
+    /// 20: the rule at this place has another distinguisher than the rule at place 0, or than the rule that it is compared with; so has a rule
+    /// without one beside a rule with one.
+    MixedDistinguisher(usize),
 }
 
 impl Reason {
@@ -289,6 +295,8 @@ impl Reason {
             Reason::TooManyRules(_) => 12,
             Reason::BadPacket => 13,
             Reason::MixedFamily(_) => 14,
+            Reason::ShortDistinguisher => 19,
+            Reason::MixedDistinguisher(_) => 20,
         }
     }
 
@@ -307,7 +315,8 @@ impl Reason {
             Reason::InsufficientData
             | Reason::InvalidPrefix
             | Reason::BadRecord
-            | Reason::BadPacket => (None, None),
+            | Reason::BadPacket
+            | Reason::ShortDistinguisher => (None, None),
             Reason::InvalidComponentOrder {
                 expected_greater_than,
                 found,
@@ -323,7 +332,8 @@ impl Reason {
             | Reason::InputTooLong(count)
             | Reason::NoRoom(count)
             | Reason::TooManyRules(count)
-            | Reason::MixedFamily(count) => (Some(count as u64), None),
+            | Reason::MixedFamily(count)
+            | Reason::MixedDistinguisher(count) => (Some(count as u64), None),
         };
         first.into_iter().chain(second)
     }
@@ -376,6 +386,12 @@ impl Display for Reason {
             Reason::BadPacket => write!(f, "a field of the packet is out of range"),
             Reason::MixedFamily(place) => {
                 write!(f, "the rule at place {place} is of another family")
+            }
+            Reason::ShortDistinguisher => {
+                write!(f, "the rule ends before the eight octets of its distinguisher")
+            }
+            Reason::MixedDistinguisher(place) => {
+                write!(f, "the rule at place {place} has another distinguisher")
             }
         }
     }
@@ -481,7 +497,7 @@ impl Answer {
     ///
     /// # Panics
     ///
-    /// If the status is above 14, which no call answers.
+    /// If the status is 15 to 18 or above 20, which no call answers.
     #[inline]
     pub fn accepted(self) -> Result<(usize, usize), Refusal> {
         match self.status {
@@ -519,6 +535,8 @@ impl Answer {
             12 => Reason::TooManyRules(count),
             13 => Reason::BadPacket,
             14 => Reason::MixedFamily(count),
+            19 => Reason::ShortDistinguisher,
+            20 => Reason::MixedDistinguisher(count),
             other => unreachable!("no call answers status {other}"),
         }
     }

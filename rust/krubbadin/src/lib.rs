@@ -5,7 +5,9 @@
 //!
 //! # In place of the flowspec module of bgpkit-parser
 //!
-//! The names and types at the root of this crate are those of that module, so that code written against it goes on with another `use` line:
+//! The names and types at the root of this crate are those of that module, so that code written against it goes on with another `use` line.
+//! One thing is more: a [`FlowSpecNlri`] has a `distinguisher` too, so that where code makes one by a struct literal and not by
+//! [`FlowSpecNlri::new`], the literal needs `distinguisher: None`.
 //!
 //! ```
 //! // was: use bgpkit_parser::models::{encode_flowspec_nlri, parse_flowspec_nlri, FlowSpecComponent};
@@ -38,6 +40,32 @@
 //! packet.protocol = 6;
 //! packet.ports = Some((49152, 80));
 //! assert_eq!(choose(&table, &packet)?, Some(1));
+//! # Ok(())
+//! # }
+//! ```
+//!
+//! # Rules of virtual networks
+//!
+//! A rule that is announced under subfamily 134 has a route distinguisher before its components (RFC 8955, 8). Whoever reads it says so:
+//! [`read_distinguished`], [`check_distinguished`] and [`Table::read_distinguished`] expect one, [`read`], [`check`] and [`Table::read`] expect
+//! none. [`write()`] writes the one that a rule has. It plays no part in matching or in rank, and [`rank`] and [`choose`] take rules of one
+//! distinguisher, or rules that all have none:
+//!
+//! ```
+//! use krubbadin::{choose, read_distinguished, write, Family, Packet, Reason, RouteDistinguisher, Table};
+//!
+//! # fn main() -> Result<(), krubbadin::Refusal> {
+//! let octets = [0x0B, 0x00, 0x00, 0xFB, 0xF0, 0x00, 0x00, 0x00, 0x07, 0x01, 0x08, 0x0A]; // to 10.0.0.0/8
+//! let (rule, _) = read_distinguished(Family::Ipv4, &octets)?;
+//! let distinguisher = rule.distinguisher.map(RouteDistinguisher);
+//! assert_eq!(distinguisher.unwrap().to_string(), "0:64496:7");
+//! assert_eq!(write(Family::Ipv4, &rule)?, octets);
+//! let mut table = Table::new();
+//! table.push(Family::Ipv4, &rule)?;
+//! let packet = Packet::new([203, 0, 113, 5], [10, 0, 2, 1]);
+//! assert_eq!(choose(&table, &packet)?, Some(0));
+//! table.read(Family::Ipv4, &[0x03, 0x01, 0x08, 0x0A])?; // the same rule outside
+//! assert_eq!(choose(&table, &packet).unwrap_err().reason(), Reason::MixedDistinguisher(1));
 //! # Ok(())
 //! # }
 //! ```
@@ -106,6 +134,9 @@ pub use error::{EncodingError, FlowSpecError, Reason, Refusal};
 pub use nlri::{check_flowspec_nlri, encode_flowspec_nlri, parse_flowspec_nlri};
 pub use operators::{BitmaskOperator, NumericOperator};
 pub use packet::Packet;
-pub use rules::{FlowSpecComponent, FlowSpecNlri, NetworkPrefix};
-pub use standard::{check, choose, matches, precedes, rank, read, write, Family, Table};
+pub use rules::{FlowSpecComponent, FlowSpecNlri, NetworkPrefix, RouteDistinguisher};
+pub use standard::{
+    check, check_distinguished, choose, matches, precedes, rank, read, read_distinguished, write,
+    Family, Table,
+};
 pub use why::{why, Field, Ground};

@@ -3,6 +3,7 @@
 use crate::error::{EncodingError, FlowSpecError, Reason, Refusal};
 use crate::rules::{FlowSpecComponent, FlowSpecNlri, NetworkPrefix};
 use crate::stored::{check_rule, list_of, read_rule, write_rule, LONGEST};
+use crate::surface::PLAIN;
 use crate::why::why_owned;
 use ipnet::IpNet;
 
@@ -29,7 +30,7 @@ const FIELD: &str = "FlowSpec NLRI total length";
 /// assert_eq!(parse_flowspec_nlri(&[0x05, 0x01]), Err(FlowSpecError::InsufficientData));
 /// ```
 pub fn parse_flowspec_nlri(data: &[u8]) -> Result<FlowSpecNlri, FlowSpecError> {
-    let (rule, _) = read_rule(0, 0, within(data)).map_err(original)?;
+    let (rule, _) = read_rule(PLAIN, 0, within(data)).map_err(original)?;
     Ok(rule)
 }
 
@@ -51,7 +52,7 @@ pub fn parse_flowspec_nlri(data: &[u8]) -> Result<FlowSpecNlri, FlowSpecError> {
 /// assert_eq!(placed, Err(Refusal::at(Reason::InvalidOperator(0x89), 2)));
 /// ```
 pub fn check_flowspec_nlri(data: &[u8]) -> Result<usize, FlowSpecError> {
-    check_rule(0, 0, within(data)).map_err(original)
+    check_rule(PLAIN, 0, within(data)).map_err(original)
 }
 
 /// As much of the data as an NLRI can have.
@@ -67,7 +68,8 @@ fn original(refusal: Refusal) -> FlowSpecError {
     }
 }
 
-/// Encodes a rule as the original does: the plain writing. [`crate::write`] writes by the RFCs, and refuses what they do not know.
+/// Encodes a rule as the original does: the plain writing, of the components alone. [`crate::write`] writes by the RFCs, and refuses what
+/// they do not know.
 ///
 /// # Errors
 ///
@@ -86,13 +88,13 @@ pub fn encode_flowspec_nlri(nlri: &FlowSpecNlri) -> Result<Vec<u8>, EncodingErro
         actual,
         max: LONGEST_BODY,
     };
-    write_rule(0, 0, nlri).map_err(|refusal| match (refusal.reason(), body_length(nlri)) {
+    write_rule(PLAIN, 0, nlri).map_err(|refusal| match (refusal.reason(), body_length(nlri)) {
         (Reason::ValueTooLarge(actual), _) => too_large(actual),
         // No record for the archive, and too long all the same.
         (_, actual) if actual > LONGEST_BODY => too_large(actual),
         _ => EncodingError::Unencodable {
             field: "FlowSpec NLRI",
-            reason: why_owned(0, 0, nlri)
+            reason: why_owned(PLAIN, 0, nlri)
                 .map_or_else(|| refusal.to_string(), |ground| ground.to_string()),
         },
     })

@@ -3,6 +3,7 @@
 use crate::operators::{BitmaskOperator, NumericOperator};
 use ipnet::{AddrParseError, IpNet};
 use std::fmt::{self, Display, Formatter};
+use std::net::Ipv4Addr;
 use std::str::FromStr;
 
 /// A prefix with the path id of ADD-PATH, which FlowSpec does not use: a reading leaves it `None`, a writing does not look at it.
@@ -55,7 +56,10 @@ impl Display for NetworkPrefix {
     }
 }
 
-/// A rule: its components in order.
+/// A rule: its components in order, and its route distinguisher if it is a rule of a virtual network.
+///
+/// [`FlowSpecNlri::new`] makes one without a distinguisher. The original has the components alone, so that a struct literal written for it
+/// needs `distinguisher: None` beside them.
 ///
 /// ```
 /// use krubbadin::{FlowSpecComponent, FlowSpecNlri, NumericOperator};
@@ -66,10 +70,78 @@ impl Display for NetworkPrefix {
 /// ]);
 /// assert_eq!(rule.components().len(), 2);
 /// ```
-#[derive(Debug, Clone, PartialEq, Eq)]
+#[derive(Clone, PartialEq, Eq)]
 pub struct FlowSpecNlri {
     /// The components.
     pub components: Vec<FlowSpecComponent>,
+    /// The route distinguisher, which rules of virtual networks have (RFC 8955, 8). [`RouteDistinguisher`] prints it. It plays no part in
+    /// matching or in rank, and the plain writing does not look at it.
+    pub distinguisher: Option<[u8; 8]>,
+}
+
+/// As the original prints it where there is no distinguisher, which it does not know.
+///
+/// ```
+/// use krubbadin::FlowSpecNlri;
+///
+/// let rule = FlowSpecNlri::new(vec![]);
+/// assert_eq!(format!("{rule:?}"), "FlowSpecNlri { components: [] }");
+/// let rule = rule.with_distinguisher([0, 0, 0, 1, 0, 0, 0, 2]);
+/// assert_eq!(format!("{rule:?}"), "FlowSpecNlri { components: [], distinguisher: [0, 0, 0, 1, 0, 0, 0, 2] }");
+/// ```
+impl fmt::Debug for FlowSpecNlri {
+    fn fmt(&self, f: &mut Formatter<'_>) -> fmt::Result {
+        let mut rule = f.debug_struct("FlowSpecNlri");
+        rule.field("components", &self.components);
+        if let Some(distinguisher) = &self.distinguisher {
+            rule.field("distinguisher", distinguisher);
+        }
+        rule.finish()
+    }
+}
+
+/// The route distinguisher of a rule, which tells the virtual network that announced it (RFC 4364, 4.2): a type of two octets and a value
+/// of six.
+///
+/// It prints as `type:administrator:number`. In type 0 the administrator is an AS number of two octets, in type 1 an IPv4 address, in type 2
+/// an AS number of four octets. Of another type the six octets are printed in hexadecimal.
+///
+/// ```
+/// use krubbadin::RouteDistinguisher;
+///
+/// assert_eq!(RouteDistinguisher([0, 0, 0xFB, 0xF0, 0, 0, 0, 7]).to_string(), "0:64496:7");
+/// assert_eq!(RouteDistinguisher([0, 1, 192, 0, 2, 1, 0, 7]).to_string(), "1:192.0.2.1:7");
+/// assert_eq!(RouteDistinguisher([0, 2, 0, 1, 0, 0, 0, 7]).to_string(), "2:65536:7");
+/// assert_eq!(RouteDistinguisher([0, 3, 0, 0, 0, 0, 0x0A, 0xFF]).to_string(), "3:000000000AFF");
+/// ```
+#[derive(Debug, Clone, Copy, PartialEq, Eq, Hash, PartialOrd, Ord)]
+pub struct RouteDistinguisher(
+    /// The eight octets, as they stand in an NLRI.
+    pub [u8; 8],
+);
+
+/// ```
+/// use krubbadin::RouteDistinguisher;
+/// assert_eq!(RouteDistinguisher::from([0, 0, 0, 1, 0, 0, 0, 2]).to_string(), "0:1:2");
+/// ```
+impl From<[u8; 8]> for RouteDistinguisher {
+    fn from(octets: [u8; 8]) -> Self {
+        RouteDistinguisher(octets)
+    }
+}
+
+impl Display for RouteDistinguisher {
+    fn fmt(&self, f: &mut Formatter<'_>) -> fmt::Result {
+        let bits = u64::from_be_bytes(self.0);
+        let (kind, value) = (bits >> 48, bits & 0xFFFF_FFFF_FFFF);
+        let (front, number) = (value >> 16, value & 0xFFFF);
+        match kind {
+            0 => write!(f, "0:{}:{}", value >> 32, value & 0xFFFF_FFFF),
+            1 => write!(f, "1:{}:{number}", Ipv4Addr::from(front as u32)),
+            2 => write!(f, "2:{front}:{number}"),
+            _ => write!(f, "{kind}:{value:012X}"),
+        }
+    }
 }
 
 /// A component of a rule.
@@ -173,13 +245,34 @@ impl FlowSpecComponent {
 }
 
 impl FlowSpecNlri {
-    /// A rule of these components.
+    /// A rule of these components, without a distinguisher.
     ///
     /// ```
-    /// assert!(krubbadin::FlowSpecNlri::new(vec![]).components.is_empty());
+    /// let rule = krubbadin::FlowSpecNlri::new(vec![]);
+    /// assert!(rule.components.is_empty() && rule.distinguisher.is_none());
     /// ```
     pub fn new(components: Vec<FlowSpecComponent>) -> Self {
-        FlowSpecNlri { components }
+        FlowSpecNlri {
+            components,
+            distinguisher: None,
+        }
+    }
+
+    /// The same rule in the virtual network of this distinguisher.
+    ///
+    /// ```
+    /// use krubbadin::{write, Family, FlowSpecComponent, FlowSpecNlri};
+    ///
+    /// let rule = FlowSpecNlri::new(vec![FlowSpecComponent::DestinationPrefix("10.0.0.0/8".parse().unwrap())]);
+    /// let rule = rule.with_distinguisher([0, 0, 0xFB, 0xF0, 0, 0, 0, 7]);
+    /// assert_eq!(rule.to_string(), "distinguisher 0:64496:7; destination 10.0.0.0/8");
+    /// assert_eq!(write(Family::Ipv4, &rule).unwrap(), [0x0B, 0, 0, 0xFB, 0xF0, 0, 0, 0, 7, 0x01, 0x08, 0x0A]);
+    /// ```
+    pub fn with_distinguisher(self, distinguisher: [u8; 8]) -> Self {
+        FlowSpecNlri {
+            distinguisher: Some(distinguisher),
+            ..self
+        }
     }
 
     /// Its components.

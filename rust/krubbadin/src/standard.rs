@@ -4,7 +4,7 @@ use crate::error::{Reason, Refusal};
 use crate::packet::Packet;
 use crate::rules::FlowSpecNlri;
 use crate::stored::{check_rule, read_rule, with_rule, write_rule, Many};
-use crate::surface;
+use crate::surface::{self, STANDARD, WITH_DISTINGUISHER};
 use std::cmp::Ordering;
 
 /// The family of a rule: IPv4 (RFC 8955) or IPv6 (RFC 8956).
@@ -49,7 +49,8 @@ impl TryFrom<u8> for Family {
     }
 }
 
-/// Reads a rule by the RFCs: the rule, and how many octets it took. Those that follow belong to someone else.
+/// Reads a rule by the RFCs: the rule, and how many octets it took. Those that follow belong to someone else. It has no distinguisher;
+/// [`read_distinguished`] reads one that has.
 ///
 /// Reserved operator bits and AND on a list's first operator are ignored and read as 0, and so are a prefix's bits outside its range. A
 /// prefix of IPv6 has the form with an offset. TCP flags have values of one octet or two, DSCP and fragments of one; the other lists have
@@ -83,7 +84,31 @@ impl TryFrom<u8> for Family {
 /// assert_eq!(parse_flowspec_nlri(&input).unwrap().to_string(), "DSCP =46");
 /// ```
 pub fn read(family: Family, input: &[u8]) -> Result<(FlowSpecNlri, usize), Refusal> {
-    read_rule(1, family.number(), input)
+    read_rule(STANDARD, family.number(), input)
+}
+
+/// As [`read`], of a rule of a virtual network, which a BGP speaker announces under subfamily 134: eight octets of route distinguisher stand
+/// before the first component and count in the length (RFC 8955, 8).
+///
+/// # Errors
+///
+/// `ShortDistinguisher` where the stated length is within the input and leaves fewer than eight octets, with the stated end as its
+/// [place](Refusal::place); what [`read`] refuses with. Places are counted from the start of the input.
+///
+/// ```
+/// use krubbadin::{read_distinguished, Family, Reason, Refusal};
+///
+/// let input = [0x0B, 0x00, 0x00, 0xFB, 0xF0, 0x00, 0x00, 0x00, 0x07, 0x01, 0x08, 0x0A];
+/// let (rule, used) = read_distinguished(Family::Ipv4, &input).unwrap();
+/// assert_eq!(rule.distinguisher, Some([0, 0, 0xFB, 0xF0, 0, 0, 0, 7]));
+/// assert_eq!(rule.to_string(), "distinguisher 0:64496:7; destination 10.0.0.0/8");
+/// assert_eq!(used, 12);
+/// let refusal = read_distinguished(Family::Ipv4, &[0x03, 0x01, 0x08, 0x0A]).unwrap_err();
+/// assert_eq!(refusal, Refusal::at(Reason::ShortDistinguisher, 4));
+/// assert_eq!(refusal.to_string(), "octet 4: the rule ends before the eight octets of its distinguisher");
+/// ```
+pub fn read_distinguished(family: Family, input: &[u8]) -> Result<(FlowSpecNlri, usize), Refusal> {
+    read_rule(WITH_DISTINGUISHER, family.number(), input)
 }
 
 /// Checks a rule by the RFCs, without making it: how many octets it takes. Those that follow belong to someone else.
@@ -105,16 +130,36 @@ pub fn read(family: Family, input: &[u8]) -> Result<(FlowSpecNlri, usize), Refus
 /// assert_eq!(check(Family::Ipv4, &input[..11]), Err(Refusal::at(Reason::InsufficientData, 11)));
 /// ```
 pub fn check(family: Family, input: &[u8]) -> Result<usize, Refusal> {
-    check_rule(1, family.number(), input)
+    check_rule(STANDARD, family.number(), input)
 }
 
-/// Writes a rule by the RFCs.
+/// As [`check`], of a rule with a distinguisher: it accepts and refuses what [`read_distinguished`] does.
+///
+/// # Errors
+///
+/// Those of [`read_distinguished`].
+///
+/// ```
+/// use krubbadin::{check_distinguished, Family, Reason, Refusal};
+///
+/// let input = [0x0B, 0x00, 0x00, 0xFB, 0xF0, 0x00, 0x00, 0x00, 0x07, 0x01, 0x21, 0x0A];
+/// // a length of 33, at octet 10
+/// assert_eq!(check_distinguished(Family::Ipv4, &input), Err(Refusal::at(Reason::InvalidPrefix, 10)));
+/// // the distinguisher alone is a rule of no components
+/// assert_eq!(check_distinguished(Family::Ipv4, &[0x08, 0, 0, 0xFB, 0xF0, 0, 0, 0, 7]), Ok(9));
+/// ```
+pub fn check_distinguished(family: Family, input: &[u8]) -> Result<usize, Refusal> {
+    check_rule(WITH_DISTINGUISHER, family.number(), input)
+}
+
+/// Writes a rule by the RFCs, its distinguisher before its components if it has one.
 ///
 /// # Errors
 ///
 /// `BadRecord` for a rule that the family does not know: types that do not rise, a prefix of the wrong form or with bits outside its
 /// range, an empty list, an end mark missing or in the wrong place, AND on a first operator, a value too large for its width, a width that
-/// [`read`] refuses for the type; [`why`](crate::why()) says which. `ValueTooLarge` for a body of more than 4,095 octets.
+/// [`read`] refuses for the type; [`why`](crate::why()) says which. `ValueTooLarge` for a body of more than 4,095 octets, the distinguisher's
+/// among them.
 ///
 /// ```
 /// use krubbadin::{read, write, Family, Reason};
@@ -126,10 +171,10 @@ pub fn check(family: Family, input: &[u8]) -> Result<usize, Refusal> {
 /// assert_eq!(write(Family::Ipv4, &rule).unwrap_err().reason(), Reason::BadRecord);
 /// ```
 pub fn write(family: Family, rule: &FlowSpecNlri) -> Result<Vec<u8>, Refusal> {
-    write_rule(1, family.number(), rule)
+    write_rule(STANDARD, family.number(), rule)
 }
 
-/// Whether a rule matches a packet: whether every component does.
+/// Whether a rule matches a packet: whether every component does. The distinguisher plays no part.
 ///
 /// # Errors
 ///
@@ -156,11 +201,12 @@ pub fn matches(family: Family, rule: &FlowSpecNlri, packet: &Packet) -> Result<b
     Ok(answer.accepted()?.0 == 1)
 }
 
-/// Which of two rules of a family precedes (RFC 8955, 5.1; RFC 8956, 4): `Less` if the first does, `Greater` if the second does.
+/// Which of two rules of a family precedes (RFC 8955, 5.1; RFC 8956, 4): `Less` if the first does, `Greater` if the second does. Both have
+/// the same distinguisher, or none.
 ///
 /// # Errors
 ///
-/// `BadRecord` for a rule that [`write()`] refuses.
+/// `BadRecord` for a rule that [`write()`] refuses; `MixedDistinguisher` with 1 if the second's distinguisher is not the first's.
 ///
 /// ```
 /// use krubbadin::{rank, read, Family};
@@ -275,7 +321,7 @@ impl Table {
         self.rules.push(family.number(), rule)
     }
 
-    /// Reads a rule by the RFCs and adds it, at the place after the last: how many octets it took.
+    /// Reads a rule by the RFCs and adds it, at the place after the last: how many octets it took. It has no distinguisher.
     ///
     /// # Errors
     ///
@@ -291,7 +337,27 @@ impl Table {
     /// ```
     pub fn read(&mut self, family: Family, input: &[u8]) -> Result<usize, Refusal> {
         self.has_place()?;
-        self.rules.read(family.number(), input)
+        self.rules.read(STANDARD, family.number(), input)
+    }
+
+    /// Reads a rule with a distinguisher, as [`read_distinguished`] does, and adds it, at the place after the last: how many octets it took.
+    ///
+    /// # Errors
+    ///
+    /// `TooManyRules` at the sixty-fifth; what [`read_distinguished`] refuses with. A rule that is refused is not added.
+    ///
+    /// ```
+    /// use krubbadin::{Family, Reason, Refusal, Table};
+    ///
+    /// let mut table = Table::new();
+    /// assert_eq!(table.read_distinguished(Family::Ipv4, &[0x08, 0, 0, 0xFB, 0xF0, 0, 0, 0, 7]), Ok(9));
+    /// assert_eq!(table.rule(0).unwrap().to_string(), "distinguisher 0:64496:7; every packet");
+    /// let refusal = Refusal::at(Reason::ShortDistinguisher, 1);
+    /// assert_eq!(table.read_distinguished(Family::Ipv4, &[0x00]), Err(refusal));
+    /// ```
+    pub fn read_distinguished(&mut self, family: Family, input: &[u8]) -> Result<usize, Refusal> {
+        self.has_place()?;
+        self.rules.read(WITH_DISTINGUISHER, family.number(), input)
     }
 
     /// The rule at a place, as it is read again from what the table keeps; path ids are not kept.
@@ -353,7 +419,9 @@ impl Table {
 ///
 /// # Errors
 ///
-/// `BadPacket` ([`Packet::why`] says which field); `MixedFamily` with the place of the first rule of another family than the packet's.
+/// `BadPacket` ([`Packet::why`] says which field); `MixedFamily` with the place of the first rule of another family than the packet's;
+/// `MixedDistinguisher` with the place of the first rule whose distinguisher is not that of the rule at place 0, or that alone of the two has
+/// one.
 ///
 /// ```
 /// use krubbadin::{choose, Family, Packet, Table};

@@ -6,7 +6,7 @@
 use crate::error::{Reason, Refusal};
 use crate::operators::{BitmaskOperator, NumericOperator};
 use crate::rules::{FlowSpecComponent, FlowSpecNlri, NetworkPrefix};
-use crate::surface::{self, COUNT, FAMILY, FIRST, OPERATORS, WORDS};
+use crate::surface::{self, COUNT, DISTINGUISHED, DISTINGUISHER, FAMILY, FIRST, OPERATORS, WORDS};
 use ipnet::{IpNet, Ipv4Net, Ipv6Net};
 use std::mem::MaybeUninit;
 use std::net::IpAddr;
@@ -17,6 +17,8 @@ pub(crate) const COMPONENTS: usize = COUNT / 4;
 pub(crate) const LONGEST: usize = 4097;
 /// So many operators have their lists on the stack.
 const FEW: usize = 32;
+/// The most octets of an NLRI beside its operators, of which each takes nine at most: components, distinguisher and length.
+const BESIDE: usize = 19 * COMPONENTS + 8 + 2;
 
 /// Rules one after another, their operators in one pair of lists.
 #[derive(Debug, Clone, Default, PartialEq, Eq)]
@@ -66,12 +68,25 @@ pub(crate) fn check_rule(standard: u8, family: u8, input: &[u8]) -> Result<usize
 /// The rule that words name, whose operators begin where the lists do.
 #[inline]
 fn rule_of(words: &[u64], values: &[u64], octets: &[u8]) -> FlowSpecNlri {
+    let distinguisher = distinguisher_of(words);
     let count = (words[COUNT] as usize).min(COMPONENTS);
     let mut components = Vec::with_capacity(count);
     for group in words[..4 * count].chunks_exact(4) {
         push_component(group, values, octets, &mut components);
     }
-    FlowSpecNlri { components }
+    FlowSpecNlri {
+        components,
+        distinguisher,
+    }
+}
+
+/// The distinguisher of the rule that words name.
+#[inline]
+fn distinguisher_of(words: &[u64]) -> Option<[u8; 8]> {
+    match words[DISTINGUISHED] {
+        0 => None,
+        _ => Some(words[DISTINGUISHER].to_be_bytes()),
+    }
 }
 
 /// No input has more operators: each takes two octets of it at least.
@@ -86,10 +101,9 @@ pub(crate) fn write_rule(
     rule: &FlowSpecNlri,
 ) -> Result<Vec<u8>, Refusal> {
     with_rule(family, rule, |words, values, octets| {
-        // At most nine octets an operator, and those of components and length.
-        let most = (9 * values.len() + 19 * COMPONENTS + 2).min(LONGEST);
+        let most = (9 * values.len() + BESIDE).min(LONGEST);
         if values.len() <= FEW {
-            let mut out = [0; 9 * FEW + 19 * COMPONENTS + 2];
+            let mut out = [0; 9 * FEW + BESIDE];
             let answer = surface::write(standard, family, words, values, octets, &mut out[..most]);
             Ok(out[..answer.accepted()?.0].to_vec())
         } else {
@@ -153,11 +167,11 @@ impl Many {
         put
     }
 
-    /// Reads a rule by the standard and adds it: the octets used. Nothing is added on a refusal.
-    pub fn read(&mut self, family: u8, input: &[u8]) -> Result<usize, Refusal> {
+    /// Reads a rule and adds it: the octets used. Nothing is added on a refusal.
+    pub fn read(&mut self, standard: u8, family: u8, input: &[u8]) -> Result<usize, Refusal> {
         let (rules, first) = (self.len(), self.values.len());
         let (words, values, octets) = self.places(most_operators(input));
-        match surface::read(1, family, input, words, values, octets).accepted() {
+        match surface::read(standard, family, input, words, values, octets).accepted() {
             Ok((used, operators)) => {
                 words[FIRST] = first as u64;
                 self.truncate(rules + 1, first + operators);
@@ -282,6 +296,11 @@ fn put_rule(
     values: &mut [u64],
     octets: &mut [u8],
 ) -> Result<(), Refusal> {
+    // Before the components: as the last thing done it costs five nanoseconds.
+    if let Some(distinguisher) = rule.distinguisher {
+        words[DISTINGUISHED] = 1;
+        words[DISTINGUISHER] = u64::from_be_bytes(distinguisher);
+    }
     let mut start = 0;
     for (at, component) in rule.components.iter().enumerate() {
         let list = list_of(component);

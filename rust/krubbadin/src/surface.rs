@@ -16,7 +16,9 @@
 //! | 52 ([`COUNT`]) | how many components there are, at most 13 |
 //! | 53 ([`FAMILY`]) | the family: 0 as the plain reading leaves it, 4 or 6 as a standard one does; at most 255 |
 //! | 54 ([`FIRST`]) | the place in the two lists where the rule's operators begin |
-//! | 55 to 63 | 0 |
+//! | 55 ([`DISTINGUISHED`]) | whether the rule has a distinguisher, 0 or 1 |
+//! | 56 ([`DISTINGUISHER`]) | its eight octets as a number, the first the highest; 0 where there is none |
+//! | 57 to 63 | 0 |
 //!
 //! A prefix, types 1 and 2, has the four words
 //!
@@ -80,6 +82,52 @@ pub const FAMILY: usize = 53;
 /// assert_eq!(words[krubbadin::surface::FIRST], 0);
 /// ```
 pub const FIRST: usize = 54;
+/// The word that says whether a rule has a distinguisher, 0 or 1: 55.
+///
+/// ```
+/// use krubbadin::surface::{read, DISTINGUISHED, DISTINGUISHER, WITH_DISTINGUISHER};
+///
+/// // a distinguisher of zeros is there all the same
+/// let mut words = [7; 64];
+/// read(WITH_DISTINGUISHER, 4, &[0x08, 0, 0, 0, 0, 0, 0, 0, 0], &mut words, &mut [], &mut []);
+/// assert_eq!((words[DISTINGUISHED], words[DISTINGUISHER]), (1, 0));
+/// ```
+pub const DISTINGUISHED: usize = 55;
+/// The word that has a distinguisher's eight octets as a number, the first the highest, and 0 where there is none: 56.
+///
+/// ```
+/// use krubbadin::surface::{read, DISTINGUISHER, WITH_DISTINGUISHER};
+///
+/// let mut words = [7; 64];
+/// read(WITH_DISTINGUISHER, 4, &[0x08, 0, 0, 0xFB, 0xF0, 0, 0, 0, 7], &mut words, &mut [], &mut []);
+/// assert_eq!(words[DISTINGUISHER], 0x0000_FBF0_0000_0007);
+/// ```
+pub const DISTINGUISHER: usize = 56;
+/// `standard` of the plain reading and the plain writing: 0.
+///
+/// ```
+/// use krubbadin::surface::{check, PLAIN};
+/// assert_eq!(check(PLAIN, 0, &[0x03, 0x03, 0x81, 0x06]).first, 4);
+/// ```
+pub const PLAIN: u8 = 0;
+/// `standard` of the standard reading without a distinguisher, and of the standard writing: 1.
+///
+/// ```
+/// use krubbadin::surface::{check, STANDARD};
+/// assert_eq!(check(STANDARD, 4, &[0x03, 0x03, 0x81, 0x06]).first, 4);
+/// ```
+pub const STANDARD: u8 = 1;
+/// `standard` of the standard reading that expects a distinguisher: 2. To a writing it is as [`STANDARD`], which writes the one that a rule
+/// has.
+///
+/// ```
+/// use krubbadin::surface::{check, WITH_DISTINGUISHER};
+///
+/// assert_eq!(check(WITH_DISTINGUISHER, 4, &[0x0B, 0, 0, 0xFB, 0xF0, 0, 0, 0, 7, 0x03, 0x81, 0x06]).first, 12);
+/// let answer = check(WITH_DISTINGUISHER, 4, &[0x03, 0x03, 0x81, 0x06]);
+/// assert_eq!((answer.status, answer.place), (19, 4));
+/// ```
+pub const WITH_DISTINGUISHER: u8 = 2;
 /// The most operators that an NLRI can have: its body has at most 4,095 octets, one is a type, and an operator takes two at least. With
 /// lists of so many places no reading is short of room.
 ///
@@ -125,7 +173,7 @@ pub struct Answer {
     /// The second number of the answer, or the second that the refusal carries, or 0.
     pub second: u64,
     /// The place of the octet that is refused, counted from the start of the input, as [`Refusal::place`] has it, or [`NOWHERE`]: only the
-    /// refusals 1 to 6 of a reading have one.
+    /// refusals 1 to 6 and 19 of a reading have one.
     pub place: u64,
 }
 
@@ -238,12 +286,14 @@ mod exported {
     }
 }
 
-/// Reads a rule into the first 64 words, its operators into the two lists. With `standard` 0 it is the plain reading, which looks at no
-/// family; else the standard one in the family, 4 or 6.
+/// Reads a rule into the first 64 words, its operators into the two lists. With `standard` 0 ([`PLAIN`]) it is the plain reading, which looks
+/// at no family; with 2 ([`WITH_DISTINGUISHER`]) the standard one in the family, 4 or 6, of a rule with a distinguisher; with any other number
+/// ([`STANDARD`]) that of a rule without one.
 ///
-/// Accepted: the octets used, and how many operators there are. Places past the last one filled stay. Refusals: 8 (plain) or 11 (standard),
-/// then 1 to 4 and 5 (plain) or 6 (standard) as the walk meets them, each with its place, then 9 with the places needed. A refusal changes
-/// nothing.
+/// Accepted: the octets used, and how many operators there are. Places past the last one filled stay. Refusals: 8 (plain) or 11 (standard);
+/// 1 in the length and where the stated end lies past the input; 19 where a distinguisher is expected and the stated length is below eight;
+/// then 1 to 4 and 5 (plain) or 6 (standard) as the walk meets them; all but 8 and 11 with their place; then 9 with the places needed. A
+/// refusal changes nothing.
 ///
 /// ```
 /// use krubbadin::surface::{read, COUNT};
@@ -328,11 +378,10 @@ pub(crate) fn read_anew<'a>(
     }
 }
 
-/// Checks a rule and writes nothing: answers what [`read`] with room for all would. With `standard` 0 it goes by the plain reading, which
-/// looks at no family; else by the standard one in the family, 4 or 6.
+/// Checks a rule and writes nothing: answers what [`read`] with the same `standard` and `family` and with room for all would.
 ///
-/// Accepted: the octets used, and how many operators there are, which is how many places [`read`] needs in each list. Refusals: 8 (plain)
-/// or 11 (standard), then 1 to 4 and 5 (plain) or 6 (standard) as the walk meets them, each with its place; never 9.
+/// Accepted: the octets used, and how many operators there are, which is how many places [`read`] needs in each list. Refusals: those of
+/// [`read`], in its order; never 9.
 ///
 /// ```
 /// use krubbadin::surface::check;
@@ -353,8 +402,9 @@ pub fn check(standard: u8, family: u8, input: &[u8]) -> Answer {
     unsafe { exported::krubbadin_check(standard, family, input.as_ptr(), input.len()) }
 }
 
-/// Writes the rule that stands in the first 64 words, its operators in the two lists, to `out`. With `standard` 0 it is the plain writing,
-/// else the standard one in the family.
+/// Writes the rule that stands in the first 64 words, its operators in the two lists, to `out`. With `standard` 0 ([`PLAIN`]) it is the plain
+/// writing, which does not look at the distinguisher, with any other number the standard one in the family, which writes it before the
+/// components if there is one.
 ///
 /// Accepted: the octets written. Later octets of `out` stay. Refusals: 11 (standard), 10, 7, then 9 with the octets needed. A
 /// refusal changes nothing.
@@ -432,7 +482,8 @@ pub fn matches(words: &[u64], values: &[u64], octets: &[u8], packet: &[u64]) -> 
 
 /// Which of two rules precedes. Each is lent as its words, values and octets.
 ///
-/// Accepted: 1 the first does, 2 the second, 0 they are equal. Refusals: 10, then 14 with 1 if the second's family is not the first's.
+/// Accepted: 1 the first does, 2 the second, 0 they are equal. Refusals: 10, then 14 with 1 if the second's family is not the first's, then
+/// 20 with 1 if the second's distinguisher is not the first's.
 ///
 /// ```
 /// use krubbadin::surface::{rank, read};
@@ -469,7 +520,8 @@ pub fn rank(one: (&[u64], &[u64], &[u8]), two: (&[u64], &[u64], &[u8])) -> Answe
 /// words; the operators of all rules stand in the one pair of lists.
 ///
 /// Accepted: 1 and the deciding rule's place, counted from 0; 0 if none matches. Refusals: 12 with the number of rules if there are more
-/// than 64; 13; 10, also where words are left over after the last whole rule; 14 with the place of the first rule of another family.
+/// than 64; 13; 10, also where words are left over after the last whole rule; 14 with the place of the first rule of another family; 20 with
+/// the place of the first rule whose distinguisher is not that of the rule at place 0, or that alone of the two has one.
 ///
 /// ```
 /// use krubbadin::surface::{choose, read};

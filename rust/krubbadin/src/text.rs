@@ -1,11 +1,12 @@
 //! Rules in words.
 
 use crate::operators::{BitmaskOperator, NumericOperator};
-use crate::rules::{FlowSpecComponent, FlowSpecNlri};
+use crate::rules::{FlowSpecComponent, FlowSpecNlri, RouteDistinguisher};
 use crate::stored::{list_of, List};
 use std::fmt::{self, Display, Formatter};
 
-/// One line: the components with `; ` between them, or `every packet` where there are none. It is for people: nothing reads it back.
+/// One line: the distinguisher if there is one, and the components with `; ` between them, or `every packet` where there are none. It is for
+/// people: nothing reads it back.
 ///
 /// ```
 /// use krubbadin::{read, Family};
@@ -15,9 +16,14 @@ use std::fmt::{self, Display, Formatter};
 /// assert_eq!(rule.to_string(), "destination 10.0.0.0/8; destination port =80 or >=90 and <=99");
 /// let (rule, _) = read(Family::Ipv4, &[0x00]).unwrap();
 /// assert_eq!(rule.to_string(), "every packet");
+/// let rule = rule.with_distinguisher([0, 1, 192, 0, 2, 1, 0, 7]);
+/// assert_eq!(rule.to_string(), "distinguisher 1:192.0.2.1:7; every packet");
 /// ```
 impl Display for FlowSpecNlri {
     fn fmt(&self, f: &mut Formatter<'_>) -> fmt::Result {
+        if let Some(distinguisher) = self.distinguisher {
+            write!(f, "distinguisher {}; ", RouteDistinguisher(distinguisher))?;
+        }
         if self.components.is_empty() {
             return write!(f, "every packet");
         }

@@ -5,7 +5,9 @@ use crate::packet::Packet;
 use crate::rules::FlowSpecNlri;
 use crate::standard::Family;
 use crate::stored::{list_of, with_rule, COMPONENTS};
-use crate::surface::{self, COUNT, FAMILY, FIRST, OPERATORS, PACKET, WORDS};
+use crate::surface::{
+    self, COUNT, DISTINGUISHED, DISTINGUISHER, FAMILY, FIRST, OPERATORS, PACKET, STANDARD, WORDS,
+};
 use std::fmt::{self, Display, Formatter};
 
 /// Why a rule is refused as [`BadRecord`](crate::Reason::BadRecord): the first ground that is met, component by component. Places are
@@ -28,11 +30,14 @@ pub enum Ground {
     Words(usize),
     /// This word of the 64 is none that a rule has there.
     Word(usize),
+    /// This word of the two of a distinguisher is wrong: 55, which says whether there is one, is neither 0 nor 1; or 56, its bits, is not 0
+    /// where there is none.
+    Distinguisher(usize),
     /// It has this many components, and 13 is the most.
     Components(u64),
     /// It has this many operators, and 2,047 is the most.
     Operators(u64),
-    /// Its body has this many octets, and 4,095 is the most. [`write()`](crate::write()) tells it as
+    /// Its body has this many octets, the distinguisher's among them, and 4,095 is the most. [`write()`](crate::write()) tells it as
     /// [`ValueTooLarge`](crate::Reason::ValueTooLarge), the other calls as `BadRecord`.
     Octets(usize),
     /// A type does not follow the one before it.
@@ -136,6 +141,18 @@ impl Display for Ground {
             }
             Ground::Words(count) => write!(f, "it has {count} words, and a rule has 64"),
             Ground::Word(at) => write!(f, "word {at} is none that a rule has there"),
+            Ground::Distinguisher(DISTINGUISHED) => {
+                write!(
+                    f,
+                    "word 55 says whether it has a distinguisher, and is neither 0 nor 1"
+                )
+            }
+            Ground::Distinguisher(at) => {
+                write!(
+                    f,
+                    "word {at} has bits of a distinguisher, and there is none"
+                )
+            }
             Ground::Components(count) => write!(f, "it has {count} components, and 13 is the most"),
             Ground::Operators(count) => write!(f, "it has {count} operators, and 2047 is the most"),
             Ground::Octets(count) => write!(f, "its body has {count} octets, and 4095 is the most"),
@@ -256,7 +273,7 @@ impl Display for Ground {
 /// assert_eq!(why(Family::Ipv4, &good), None);
 /// ```
 pub fn why(family: Family, rule: &FlowSpecNlri) -> Option<Ground> {
-    why_owned(1, family.number(), rule)
+    why_owned(STANDARD, family.number(), rule)
 }
 
 /// The same of either writing.
@@ -355,9 +372,17 @@ impl Writing<'_> {
             };
         }
         // The components are taken, so that it is a word beside them.
-        let used = |at: &usize| *at < 4 * count || matches!(*at, COUNT | FAMILY | FIRST);
-        let stray = (0..WORDS).find(|at| !used(at) && words[*at] != 0);
-        Ground::Word(stray.unwrap_or(FAMILY))
+        let strays = |at: &usize| match *at {
+            COUNT | FAMILY | FIRST => false,
+            DISTINGUISHED => words[DISTINGUISHED] > 1,
+            DISTINGUISHER => words[DISTINGUISHED] == 0 && words[DISTINGUISHER] != 0,
+            at => at >= 4 * count && words[at] != 0,
+        };
+        match (0..WORDS).find(strays) {
+            Some(at @ (DISTINGUISHED | DISTINGUISHER)) => Ground::Distinguisher(at),
+            Some(at) => Ground::Word(at),
+            None => Ground::Word(FAMILY),
+        }
     }
 
     /// Of a component that is taken by itself, and not after those before it.

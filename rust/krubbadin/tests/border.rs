@@ -3,10 +3,12 @@
 //!
 //! Each call is made twice, with its slices at the front of their pages and at the end of them. A read or a write beyond a slice ends the
 //! program. Afterwards every place must be as it was before, but those that the answer says were filled, and both calls must have
-//! answered the same; a check must answer so without guard pages too. Only the refusals 1 to 6 have a place, and it is within the input.
+//! answered the same; a check must answer so without guard pages too. Only the refusals 1 to 6 and 19 have a place, and it is within the
+//! input.
 
 use inputs::{Form, Random, LONGEST_INPUT};
 use krubbadin::surface::{self, Answer, COUNT, FAMILY, FIRST, NOWHERE, OPERATORS, PACKET, WORDS};
+use krubbadin::surface::{DISTINGUISHED, DISTINGUISHER, PLAIN, STANDARD, WITH_DISTINGUISHER};
 
 /// Turns; each makes two calls of each function that takes slices.
 const TURNS: usize = 40_000;
@@ -187,6 +189,7 @@ fn at_guard_pages() -> Calls {
     let mut border = Border::new();
     let mut calls = Calls::default();
     calls.add(border.too_wide());
+    calls.add(border.short_distinguishers());
     for _ in 0..TURNS {
         calls.add(border.read(&mut random));
         calls.add(border.check(&mut random));
@@ -298,10 +301,68 @@ impl Border {
         calls
     }
 
+    /// An input that ends before a distinguisher, in it, with it and behind it, under every stated length: nothing is looked for past its end.
+    fn short_distinguishers(&mut self) -> Calls {
+        const BODY: [u8; 11] = [
+            0x01, 0x23, 0x45, 0x67, 0x89, 0xAB, 0xCD, 0xEF, 0x03, 0x81, 0x06,
+        ];
+        let mut calls = Calls::default();
+        for (there, stated) in
+            (0..=11).flat_map(|there| (0..=11).map(move |stated| (there, stated)))
+        {
+            let operators = usize::from(stated == 11);
+            let (status, place) = match stated {
+                _ if stated > there => (1, 1 + there as u64),
+                0..=7 => (19, 1 + stated as u64),
+                8 | 11 => (0, NOWHERE),
+                _ => (1, 1 + stated as u64),
+            };
+            let input = [&[stated as u8], &BODY[..there]].concat();
+            for family in [4, 6] {
+                calls.add(twice(|side| {
+                    self.input.put(&input, side);
+                    self.words.lend(WORDS, side);
+                    self.values.lend(operators, side);
+                    self.octets.lend(operators, side);
+                    let checked = surface::check(WITH_DISTINGUISHER, family, self.input.list());
+                    let answer = surface::read(
+                        WITH_DISTINGUISHER,
+                        family,
+                        self.input.list(),
+                        self.words.list_mut(),
+                        self.values.list_mut(),
+                        self.octets.list_mut(),
+                    );
+                    assert_eq!((answer, answer.status), (checked, status), "{input:02X?}");
+                    assert_eq!(answer.place, place, "{input:02X?}");
+                    let (words, operators) = match status {
+                        0 => (WORDS, operators),
+                        _ => (0, 0),
+                    };
+                    self.input.unchanged("short distinguisher, input");
+                    let words = self.words.filled(words, "short distinguisher, words");
+                    self.values.filled(operators, "short distinguisher, values");
+                    self.octets.filled(operators, "short distinguisher, octets");
+                    if status == 0 {
+                        let bits = 0x0123_4567_89AB_CDEF;
+                        assert_eq!(words[DISTINGUISHED..=DISTINGUISHER], [1, bits]);
+                    }
+                    (answer, words)
+                }));
+            }
+        }
+        calls
+    }
+
     fn write(&mut self, random: &mut Random) -> Calls {
         let (standard, family) = reading(random);
         let table = Table::damaged(random, 1);
-        let room = random.pick(&[0, 1, 8, 40, 300, 4096, 4097, 5000]);
+        let needed = table.octets_written(standard, family);
+        let room = match random.below(3) {
+            0 => needed,
+            1 => needed.saturating_sub(1),
+            _ => random.pick(&[0, 1, 8, 40, 300, 4096, 4097, 5000]),
+        };
         twice(|side| {
             self.put_one(&table, side);
             self.out.lend(room, side);
@@ -314,8 +375,9 @@ impl Border {
                 self.out.list_mut(),
             );
             self.one_unchanged();
-            let written = if answer.status == 0 { answer.first } else { 0 };
-            (answer, self.out.filled(written as usize, "write, out"))
+            let written = if answer.status == 0 { needed } else { 0 };
+            assert_eq!(answer.status == 0, needed > 0 && room >= needed);
+            (answer, self.out.filled(written, "write, out"))
         })
     }
 
@@ -335,10 +397,13 @@ impl Border {
 
     fn rank(&mut self, random: &mut Random) -> Calls {
         let one = Table::damaged(random, 1);
-        let two = match random.below(3) {
+        let mut two = match random.below(3) {
             0 => one.clone(),
             _ => Table::damaged(random, 1),
         };
+        if let (Some(rule), true) = (one.words.get(..WORDS), random.once_in(2)) {
+            two.set_distinguisher(rule[DISTINGUISHED], rule[DISTINGUISHER]);
+        }
         twice(|side| {
             self.put_one(&one, side);
             self.words2.put(&two.words, side);
@@ -397,21 +462,23 @@ fn twice<T: PartialEq + std::fmt::Debug>(mut call: impl FnMut(Side) -> (Answer, 
 /// The place is one of so many octets or their end where a reading refuses an octet, and else there is none.
 fn placed_within(answer: Answer, octets: usize) {
     let within = match answer.status {
-        1..=6 => answer.place <= octets as u64,
+        1..=6 | 19 => answer.place <= octets as u64,
         _ => answer.place == NOWHERE,
     };
     assert!(within, "{answer:?} of {octets} octets");
 }
 
 fn reading(random: &mut Random) -> (u8, u8) {
-    let standard = random.pick(&[0, 0, 1, 1, 1, 1, 2, 255]);
+    let standard = random.pick(&[0, 0, 1, 1, 1, 2, 2, 2, 3, 255]);
     (standard, random.pick(&[4, 4, 4, 6, 6, 6, 0, 5, 255]))
 }
 
 fn form(standard: u8, family: u8) -> Form {
+    let family = if family == 6 { 6 } else { 4 };
     match standard {
-        0 => Form::Plain,
-        _ => Form::Standard(if family == 6 { 6 } else { 4 }),
+        PLAIN => Form::Plain,
+        WITH_DISTINGUISHER => Form::WithDistinguisher(family),
+        _ => Form::Standard(family),
     }
 }
 
@@ -420,9 +487,17 @@ impl Table {
     fn damaged(random: &mut Random, rules: usize) -> Self {
         let mut table = Table::default();
         let family = random.pick(&[0, 4, 4, 4, 6, 6, 6]);
+        let standard = match family {
+            0 => PLAIN,
+            _ => random.pick(&[STANDARD, WITH_DISTINGUISHER]),
+        };
         let most = OPERATORS / rules.max(1);
         for _ in 0..rules {
-            table.add(random, family, most);
+            table.add(random, standard, family, most);
+        }
+        // Of many distinguishers no rule is chosen.
+        if standard == WITH_DISTINGUISHER && !random.once_in(4) {
+            table.set_distinguisher(1, random.number());
         }
         if random.once_in(2) {
             for _ in 0..=random.below(3) {
@@ -433,8 +508,7 @@ impl Table {
     }
 
     /// Adds a rule of not too many operators, an empty one where none was hit upon.
-    fn add(&mut self, random: &mut Random, family: u8, most: usize) {
-        let standard = u8::from(family != 0);
+    fn add(&mut self, random: &mut Random, standard: u8, family: u8, most: usize) {
         let (mut words, mut values, mut octets) = ([0; WORDS], [0; OPERATORS], [0; OPERATORS]);
         words[FAMILY] = u64::from(family);
         let mut input = Vec::new();
@@ -458,6 +532,21 @@ impl Table {
         self.words.extend(words);
         self.values.extend(&values[..count]);
         self.octets.extend(&octets[..count]);
+    }
+
+    /// Gives all rules these words of a distinguisher.
+    fn set_distinguisher(&mut self, presence: u64, bits: u64) {
+        for rule in self.words.chunks_exact_mut(WORDS) {
+            (rule[DISTINGUISHED], rule[DISTINGUISHER]) = (presence, bits);
+        }
+    }
+
+    /// How many octets a writing gives, 0 where it refuses.
+    fn octets_written(&self, standard: u8, family: u8) -> usize {
+        let mut out = [0; LONGEST_INPUT];
+        let (values, octets) = (&self.values, &self.octets);
+        let answer = surface::write(standard, family, &self.words, values, octets, &mut out);
+        answer.accepted().map_or(0, |(written, _)| written)
     }
 
     fn damage(&mut self, random: &mut Random) {
@@ -489,7 +578,8 @@ impl Table {
             }
             2 if self.words.len() >= WORDS => {
                 let rule = WORDS * random.below(self.words.len() / WORDS);
-                let at = random.pick(&[COUNT, FAMILY, FIRST, 0, 1, 2, 3, 4, 5, 6, 63]);
+                let words = [COUNT, FAMILY, FIRST, DISTINGUISHED, DISTINGUISHER];
+                let at = random.pick(&[&words[..], &[0, 1, 2, 3, 4, 5, 6, 57, 63]].concat());
                 self.words[rule + at] = number;
             }
             3 if !self.values.is_empty() => {
@@ -670,13 +760,10 @@ fn stack_taken() -> [(&'static str, usize); 8] {
     let packets: Vec<Vec<u64>> = (0..200).map(|_| packet(&mut random)).collect();
     let mut inputs = vec![Vec::new(); 2000];
     for (turn, input) in inputs.iter_mut().enumerate() {
-        inputs::random(
-            [Form::Plain, Form::Standard(4), Form::Standard(6)][turn % 3],
-            &mut random,
-            input,
-        );
+        let (standard, family) = [(0, 0), (1, 4), (1, 6), (2, 4), (2, 6)][turn % 5];
+        inputs::random(form(standard, family), &mut random, input);
     }
-    let readings = [(0, 0), (1, 4), (1, 6), (1, 5)];
+    let readings = [(0, 0), (1, 4), (1, 6), (1, 5), (2, 4), (2, 6)];
     let (mut words, mut values, mut octets) = ([0; WORDS], [0; OPERATORS], [0; OPERATORS]);
     let mut out = [0; LONGEST_INPUT];
     let empty = painted::taken(&mut || ());

@@ -11,10 +11,12 @@ use std::alloc::{GlobalAlloc, Layout, System};
 use std::cell::Cell;
 
 /// The forms of a reading, and what the surface is asked for.
-const FORMS: [(Form, u8, u8); 3] = [
+const FORMS: [(Form, u8, u8); 5] = [
     (Form::Plain, 0, 0),
     (Form::Standard(4), 1, 4),
     (Form::Standard(6), 1, 6),
+    (Form::WithDistinguisher(4), 2, 4),
+    (Form::WithDistinguisher(6), 2, 6),
 ];
 
 /// Reads with room for all.
@@ -53,8 +55,17 @@ fn same(form: Form, standard: u8, family: u8, input: &[u8]) -> bool {
         }
     } else {
         let family = Family::try_from(family).unwrap();
-        let wanted = read_used(family, input);
-        assert_eq!(check(family, input), wanted, "{form}: {input:02X?}");
+        let (checked, wanted) = match form {
+            Form::WithDistinguisher(_) => {
+                let read = read_distinguished(family, input);
+                (
+                    check_distinguished(family, input),
+                    read.map(|(_, used)| used),
+                )
+            }
+            _ => (check(family, input), read_used(family, input)),
+        };
+        assert_eq!(checked, wanted, "{form}: {input:02X?}");
         assert_eq!(wanted, read.accepted().map(|(used, _)| used));
     }
     read.status == 0
@@ -78,7 +89,12 @@ fn inputs_made_by_rule_are_checked_as_they_are_read() {
             }
             place += 1;
         });
-        assert!(accepted > 1_000 && refused > 10_000, "{accepted} {refused}");
+        // Most short inputs that are accepted state no octets, where a distinguisher is expected.
+        let most = match form {
+            Form::WithDistinguisher(_) => 200,
+            _ => 1_000,
+        };
+        assert!(accepted > most && refused > 10_000, "{accepted} {refused}");
     }
 }
 
@@ -113,9 +129,11 @@ fn random_inputs_are_checked_as_they_are_read() {
     for family in 0..=255 {
         let plain = surface::check(0, family, &input);
         assert_eq!(plain, surface::check(0, 4, &input));
-        if ![4, 6].contains(&family) {
-            let answer = surface::check(1, family, &input);
-            assert_eq!(answer.accepted(), Err(Reason::BadFamily(family).into()));
+        for standard in [1, 2] {
+            if ![4, 6].contains(&family) {
+                let answer = surface::check(standard, family, &input);
+                assert_eq!(answer.accepted(), Err(Reason::BadFamily(family).into()));
+            }
         }
     }
 }
@@ -193,6 +211,8 @@ fn nothing_is_allocated() {
             check_flowspec_nlri(input).map_err(Refusal::from),
             check(Family::Ipv4, input),
             check(Family::Ipv6, input),
+            check_distinguished(Family::Ipv4, input),
+            check_distinguished(Family::Ipv6, input),
         ] {
             match checked {
                 Ok(_) => accepted += 1,

@@ -2,18 +2,27 @@
 //! it is missing (docs/SCOPE.md, "What comes back"): cases by hand, every truncation of good inputs, and inputs made by rule and at random.
 
 use inputs::{Form, Random, FIXED, LONGEST_BODY};
-use krubbadin::surface::{self, Answer, COUNT, FAMILY, NOWHERE, OPERATORS, WORDS};
+use krubbadin::surface::{self, Answer, COUNT, DISTINGUISHED, FAMILY, NOWHERE, OPERATORS, WORDS};
 use krubbadin::*;
-use Form::{Plain, Standard};
+use Form::{Plain, Standard, WithDistinguisher};
 
 const FORMS: [Form; 3] = [Plain, Standard(4), Standard(6)];
 const STANDARD: [Form; 2] = [Standard(4), Standard(6)];
+/// Those and the readings that expect a distinguisher.
+const ALL: [Form; 5] = [
+    Plain,
+    Standard(4),
+    Standard(6),
+    WithDistinguisher(4),
+    WithDistinguisher(6),
+];
 
 /// What a check answers, which every other call must say too.
 fn answer(form: Form, input: &[u8]) -> Answer {
     let (standard, family) = match form {
         Plain => (0, 0),
         Standard(family) => (1, family),
+        WithDistinguisher(family) => (2, family),
     };
     let answer = surface::check(standard, family, input);
     let (mut words, mut values, mut octets) = ([0; WORDS], [0; OPERATORS], [0; OPERATORS]);
@@ -32,11 +41,20 @@ fn answer(form: Form, input: &[u8]) -> Answer {
     // The octets are refused before the room is.
     let read = surface::read(standard, family, input, &mut [], &mut [], &mut []);
     assert_eq!(read, answer, "{form}: {input:02X?}");
-    if let Some(family) = Family::try_from(family).ok().filter(|_| standard == 1) {
+    if let Ok(family) = Family::try_from(family) {
         let refusal = answer.accepted().unwrap_err();
-        assert_eq!(read_refusal(family, input), refusal);
-        assert_eq!(check(family, input), Err(refusal));
-        assert_eq!(Table::new().read(family, input), Err(refusal));
+        let mut table = Table::new();
+        if standard == 2 {
+            let read = read_distinguished(family, input).unwrap_err();
+            assert_eq!(read, refusal);
+            assert_eq!(check_distinguished(family, input), Err(refusal));
+            assert_eq!(table.read_distinguished(family, input), Err(refusal));
+        } else {
+            assert_eq!(read_refusal(family, input), refusal);
+            assert_eq!(check(family, input), Err(refusal));
+            assert_eq!(table.read(family, input), Err(refusal));
+        }
+        assert!(table.is_empty());
     }
     answer
 }
@@ -75,6 +93,14 @@ fn restated(input: &[u8], end: usize) -> Vec<u8> {
 
 fn missing_at(place: usize) -> Refusal {
     Refusal::at(Reason::InsufficientData, place)
+}
+
+/// What is said where octets are missing before a stated end that the input has.
+fn missing_before(form: Form, end: usize, width: usize) -> Refusal {
+    match form {
+        WithDistinguisher(_) if end < width + 8 => Refusal::at(Reason::ShortDistinguisher, end),
+        _ => missing_at(end),
+    }
 }
 
 #[test]
@@ -269,12 +295,25 @@ fn each_operator_of_a_long_list_may_be_too_wide() {
 
 /// Inputs that a reading accepts.
 fn good_inputs(form: Form) -> Vec<Vec<u8>> {
+    let distinguisher: &[u8] = match form {
+        WithDistinguisher(_) => &[0x00, 0x00, 0xFB, 0xF0, 0x00, 0x00, 0x00, 0x07],
+        _ => &[],
+    };
+    let behind = |body: &[u8]| inputs::framed(&[distinguisher, body].concat());
     let mut good: Vec<Vec<u8>> = FIXED.iter().map(|text| inputs::octets(text)).collect();
+    if !distinguisher.is_empty() {
+        let body = |input: &Vec<u8>| {
+            let (width, length) = stated(input)?;
+            input.get(width..width + length).map(behind)
+        };
+        good = good.iter().filter_map(body).collect();
+    }
     for code in 0..4 {
         let bodies = [240, 300, 1000].map(|length| inputs::list_of(4, length, code));
-        good.extend(bodies.iter().map(|body| inputs::framed(body)));
+        good.extend(bodies.iter().map(|body| behind(body)));
     }
-    good.push(inputs::framed(&inputs::list_of(4, LONGEST_BODY, 0)));
+    let longest = LONGEST_BODY - distinguisher.len();
+    good.push(behind(&inputs::list_of(4, longest, 0)));
     let mut random = Random::new(31);
     for _ in 0..1_500 {
         let mut input = Vec::new();
@@ -287,7 +326,7 @@ fn good_inputs(form: Form) -> Vec<Vec<u8>> {
 
 #[test]
 fn every_truncation_of_a_good_input_is_refused_at_its_end() {
-    for form in FORMS {
+    for form in ALL {
         let (mut cut, mut short) = (0, 0);
         for input in good_inputs(form) {
             let (used, _) = answer(form, &input).accepted().unwrap();
@@ -311,13 +350,14 @@ fn every_truncation_of_a_good_input_is_refused_at_its_end() {
                     Ok((used, _)) => assert_eq!(used, early),
                     Err(refusal) => {
                         short += 1;
-                        assert_eq!((form == Plain, refusal), (false, missing_at(early)));
+                        let missing = missing_before(form, early, width);
+                        assert_eq!((form == Plain, refusal), (false, missing));
                     }
                 }
                 // All octets up to there, and none behind: both readings end there.
                 match answer(form, &restated(&input[..early], early)).accepted() {
                     Ok((used, _)) => assert_eq!(used, early),
-                    Err(refusal) => assert_eq!(refusal, missing_at(early)),
+                    Err(refusal) => assert_eq!(refusal, missing_before(form, early, width)),
                 }
             }
         }
@@ -339,7 +379,7 @@ fn placed(form: Form, input: &[u8], random: &mut Random) -> usize {
         assert_eq!(used, end, "{told}");
     };
     // The octets from the place on that make a difference: in IPv6 a length and its offset.
-    let mut telling = 1;
+    let (mut from, mut telling) = (place, 1);
     match said.status {
         0 | 8 => {
             assert_eq!(said.place, NOWHERE, "{told}");
@@ -359,8 +399,8 @@ fn placed(form: Form, input: &[u8], random: &mut Random) -> usize {
             good_before(place - 1);
             match form {
                 Plain => assert!(at(place) > 128, "{told}"),
-                Standard(4) => assert!(at(place) > 32, "{told}"),
-                Standard(_) => telling = 2,
+                Standard(4) | WithDistinguisher(4) => assert!(at(place) > 32, "{told}"),
+                _ => telling = 2,
             }
         }
         5 => {
@@ -377,19 +417,26 @@ fn placed(form: Form, input: &[u8], random: &mut Random) -> usize {
             let then = answer_of(&narrow);
             assert!(then.status == 0 || then.place > said.place, "{told}");
         }
+        19 => {
+            let (width, length) = stated(input).unwrap();
+            assert!(matches!(form, WithDistinguisher(_)), "{told}");
+            assert!(place == width + length && length < 8, "{told}");
+            // Nothing behind the length is looked at.
+            (from, telling) = (0, width);
+        }
         _ => panic!("{told}"),
     }
     let mut other = input.to_vec();
-    other[place + telling..].fill_with(|| random.octet());
+    other[from + telling..].fill_with(|| random.octet());
     assert_eq!(answer_of(&other), said, "{told}");
     said.status as usize
 }
 
 #[test]
 fn the_place_is_exact_of_inputs_made_by_rule() {
-    for form in FORMS {
+    for form in ALL {
         let mut random = Random::new(32);
-        let mut met = [0; 9];
+        let mut met = [0; 20];
         let mut count = 0u64;
         inputs::by_rule(form, &mut |input| {
             // Over a million.
@@ -406,8 +453,8 @@ fn the_place_is_exact_of_inputs_made_by_rule() {
 fn the_place_is_exact_of_random_inputs() {
     let mut random = Random::new(33);
     let mut input = Vec::new();
-    for form in FORMS {
-        let mut met = [0; 9];
+    for form in ALL {
+        let mut met = [0; 20];
         for _ in 0..40_000 {
             inputs::random(form, &mut random, &mut input);
             met[placed(form, &input, &mut random)] += 1;
@@ -417,11 +464,17 @@ fn the_place_is_exact_of_random_inputs() {
 }
 
 /// That each answer of a reading was met, by number, and often enough, and none that is another's.
-fn all_met(form: Form, met: [u32; 9]) {
+fn all_met(form: Form, met: [u32; 20]) {
     let (own, other) = if form == Plain { (5, 6) } else { (6, 5) };
-    let often = |&status: &usize| met[status] > 100;
+    let often = |&status: &usize| met[status] > 50;
     assert!([0, 1, 2, 3, 4, own].iter().all(often), "{met:?}");
     assert_eq!(met[other], 0, "{met:?}");
+    let distinguished = matches!(form, WithDistinguisher(_));
+    assert_eq!(
+        (often(&19), met[19] > 0),
+        (distinguished, distinguished),
+        "{met:?}"
+    );
 }
 
 #[test]
@@ -491,6 +544,11 @@ fn other_answers_have_no_place() {
     nowhere(surface::rank(rule, rule), 0);
     nowhere(surface::rank(rule, none), 10);
     nowhere(surface::rank(rule, other), 14);
+    let mut own = words;
+    own[DISTINGUISHED] = 1;
+    nowhere(surface::rank(rule, (&own, &values, &octets)), 20);
+    let both = [words, own].concat();
+    nowhere(surface::choose(&both, &values, &octets, &packet), 20);
     nowhere(surface::operator_write(0, 1, 0, 2, 1), 0);
     nowhere(surface::operator_write(0, 1, 0, 3, 1), 10);
 }

@@ -479,8 +479,13 @@ fn an_error_says_what_it_carries() {
         (Reason::TooManyRules(109), vec!["109", "64"]),
         (Reason::BadPacket, vec![]),
         (Reason::MixedFamily(110), vec!["110"]),
+        (Reason::ShortDistinguisher, vec!["distinguisher"]),
+        (
+            Reason::MixedDistinguisher(111),
+            vec!["111", "distinguisher"],
+        ),
     ];
-    for (number, (reason, words)) in (1..).zip(all) {
+    for (number, (reason, words)) in (1..=14).chain([19, 20]).zip(all) {
         assert_eq!(reason.number(), number);
         let error: Box<dyn Error> = Box::new(reason);
         let text = error.to_string();

@@ -2,6 +2,7 @@
 
 use inputs::{Form, Random};
 use krubbadin::surface::{self, why_packet, why_rule, COUNT, FAMILY, FIRST, OPERATORS, WORDS};
+use krubbadin::surface::{DISTINGUISHED, DISTINGUISHER};
 use krubbadin::*;
 
 /// The words of a rule with its lists.
@@ -89,11 +90,23 @@ fn a_ground_is_named_exactly_where_a_rule_is_refused() {
     let mut input = Vec::new();
     let (mut bad, mut good) = (0, 0);
     for turn in 0..60_000 {
-        let family = [4, 6][turn % 2];
-        inputs::random(Form::Standard(family), &mut random, &mut input);
+        let (form, standard, family) = [
+            (Form::Standard(4), 1, 4),
+            (Form::Standard(6), 1, 6),
+            (Form::WithDistinguisher(4), 2, 4),
+            (Form::WithDistinguisher(6), 2, 6),
+        ][turn % 4];
+        inputs::random(form, &mut random, &mut input);
         let (mut values, mut octets) = (vec![0; OPERATORS], vec![0; OPERATORS]);
         let mut words = vec![0; WORDS];
-        let read = surface::read(1, family, &input, &mut words, &mut values, &mut octets);
+        let read = surface::read(
+            standard,
+            family,
+            &input,
+            &mut words,
+            &mut values,
+            &mut octets,
+        );
         if read.status != 0 {
             continue;
         }
@@ -105,7 +118,7 @@ fn a_ground_is_named_exactly_where_a_rule_is_refused() {
             octets,
         };
         lent.change(&mut random);
-        for (standard, family) in [(0, 0), (1, 4), (1, 6), (1, 5)] {
+        for (standard, family) in [(0, 0), (1, 4), (1, 6), (1, 5), (2, 4)] {
             let (ground, status) = (lent.why(standard, family), lent.status(standard, family));
             assert_eq!(
                 ground.is_some(),
@@ -356,8 +369,13 @@ fn each_ground_is_the_one_that_is_meant() {
 
     let mut long: Vec<(u8, u64)> = vec![(0x31, 6); 600];
     long[599].0 = 0xB1;
-    let whole = Lent::new(4, &[list(3, 0, 600)], &long);
+    let mut whole = Lent::new(4, &[list(3, 0, 600)], &long);
     assert_eq!(whole.why(1, 4), Some(Octets(5401)));
+    assert_eq!(whole.why(0, 0), Some(Octets(5401)));
+    // A distinguisher counts, but for the plain writing.
+    whole.words[DISTINGUISHED] = 1;
+    assert_eq!(whole.why(1, 4), Some(Octets(5409)));
+    assert_eq!(whole.why(2, 4), Some(Octets(5409)));
     assert_eq!(whole.why(0, 0), Some(Octets(5401)));
     // The plain writing takes lists as they are, also one list twice.
     let many = Lent::new(0, &[list(3, 0, 1024), list(4, 0, 1024)], &[SIX; 1024]);
@@ -370,6 +388,10 @@ fn each_ground_is_the_one_that_is_meant() {
         (COUNT, 14, Components(14)),
         (COUNT, u64::MAX, Components(u64::MAX)),
         (FAMILY, 256, Word(FAMILY)),
+        (DISTINGUISHED, 2, Distinguisher(55)),
+        (DISTINGUISHED, u64::MAX, Distinguisher(55)),
+        (DISTINGUISHER, 1, Distinguisher(56)),
+        (57, 1, Word(57)),
         (63, 1, Word(63)),
         (7, 1, Word(7)),
     ] {
@@ -377,7 +399,32 @@ fn each_ground_is_the_one_that_is_meant() {
         lent.words[at] = number;
         assert_eq!(lent.why(1, 4), Some(ground));
         assert_eq!(lent.why(0, 0), Some(ground));
+        // The first word that is wrong, and a component's before it.
+        if at > FIRST {
+            lent.words[63] = 1;
+            let first = if at == 63 { Word(63) } else { ground };
+            assert_eq!(lent.why(1, 4), Some(first));
+            lent.words[51] = 1;
+            assert_eq!(lent.why(1, 4), Some(Word(51)));
+            lent.words[1] = 33;
+            let ground = lent.why(1, 4).unwrap();
+            assert!(matches!(ground, Range { .. }), "{ground}");
+        }
     }
+    // Bits are any, where there is a distinguisher; both words wrong are told by the first.
+    let mut lent = Lent::new(4, &[ten], &[]);
+    (lent.words[DISTINGUISHED], lent.words[DISTINGUISHER]) = (1, u64::MAX);
+    assert_eq!((lent.why(1, 4), lent.why(0, 0)), (None, None));
+    lent.words[DISTINGUISHED] = 2;
+    assert_eq!(lent.why(1, 4), Some(Distinguisher(55)));
+    assert_eq!(
+        Distinguisher(55).to_string(),
+        "word 55 says whether it has a distinguisher, and is neither 0 nor 1"
+    );
+    assert_eq!(
+        Distinguisher(56).to_string(),
+        "word 56 has bits of a distinguisher, and there is none"
+    );
     let mut lent = Lent::new(4, &[list(3, 0, 1)], &[SIX]);
     lent.words[FIRST] = 1;
     assert_eq!(lent.why(1, 4), Some(Outside { component }));

@@ -80,6 +80,18 @@ pub(crate) fn octet(high: u8, low: u8) -> Option<u8> {
     Some(high << 4 | low).filter(|_| high | low < 16)
 }
 
+/// A route distinguisher, `-` for none.
+pub fn distinguisher(field: &[u8]) -> Read<Option<[u8; 8]>> {
+    if field == NONE {
+        return Ok(None);
+    }
+    let bad = Bad("a distinguisher is sixteen upper-case hex digits, - for none");
+    match wide(field) {
+        Ok(bits) if field.len() == 16 => Ok(Some((bits as u64).to_be_bytes())),
+        _ => Err(bad),
+    }
+}
+
 /// The number that one to sixteen octets are, high octet first.
 pub(crate) fn wide(field: &[u8]) -> Read<u128> {
     const BAD: Bad = Bad("an address is upper-case hex, two digits an octet, 16 octets at most");
@@ -149,6 +161,14 @@ pub fn put_octets(octets: &[u8], out: &mut Vec<u8>) {
     }
     for &octet in octets {
         put_octet(octet, out);
+    }
+}
+
+/// Puts a route distinguisher, `-` for none.
+pub fn put_distinguisher(distinguisher: Option<[u8; 8]>, out: &mut Vec<u8>) {
+    match distinguisher {
+        None => out.extend_from_slice(NONE),
+        Some(octets) => put_octets(&octets, out),
     }
 }
 

@@ -1,9 +1,9 @@
 //! The text: what is read is printed again, and nothing else is read; words are those of the surface.
 
 use protocol::{
-    components, hex_number, number, octet_number, octets, operators, pair, put_octets,
-    put_operators, put_placed_refusal, put_refusal, put_rule, put_span, put_values, span, text,
-    values, words, Bad, Component, Operator, Packet, Read, Span,
+    components, distinguisher, hex_number, number, octet_number, octets, operators, pair,
+    put_distinguisher, put_octets, put_operators, put_placed_refusal, put_refusal, put_rule,
+    put_span, put_values, span, text, values, words, Bad, Component, Operator, Packet, Read, Span,
 };
 
 type Rule<L> = Vec<Component<L>>;
@@ -59,6 +59,43 @@ fn lists_take_the_place_of_what_was_there() {
     }
     for text in ["", ",", "1,", "1,,2", "1,A"] {
         assert!(values(text.as_bytes(), &mut numbers).is_err(), "{text:?}");
+    }
+}
+
+#[test]
+fn distinguishers_come_back_as_they_went_in() {
+    assert_eq!(distinguisher(b"-"), Ok(None));
+    assert_eq!(distinguisher(b"0000000000000000"), Ok(Some([0; 8])));
+    assert_eq!(
+        distinguisher(b"0000FBF000000A07"),
+        Ok(Some([0, 0, 0xFB, 0xF0, 0, 0, 0x0A, 7]))
+    );
+    for asked in [
+        "-",
+        "0000000000000000",
+        "0000FBF000000A07",
+        "FFFFFFFFFFFFFFFF",
+    ] {
+        let own = distinguisher(asked.as_bytes()).unwrap();
+        assert_eq!(text(|out| put_distinguisher(own, out)), asked);
+    }
+    for text in [
+        "",
+        "--",
+        "rd",
+        "0",
+        "00",
+        "00000000000000",
+        "000000000000000",
+        "00000000000000000",
+        "000000000000000000",
+        "0000FBF000000a07",
+        "0000FBF00000000G",
+        "0000FBF0 0000000",
+        "+000FBF000000007",
+        "0:64496:7",
+    ] {
+        assert!(distinguisher(text.as_bytes()).is_err(), "{text:?}");
     }
 }
 

@@ -11,7 +11,7 @@ pub(crate) fn is_well_formed(flow: &Flow) -> bool {
     write(flow.family, &flow.rule).is_ok()
 }
 
-/// Document 01, "What comes back": refusals 12, 13, 10 and 14, in this order.
+/// Document 01, "What comes back": refusals 12, 13, 10, 14 and 20, in this order.
 pub(crate) fn check(flows: &[Flow], packet: &Packet) -> Result<(), Refusal> {
     if flows.len() > RULES {
         return Err(Refusal::TooManyRules(flows.len()));
@@ -23,8 +23,13 @@ pub(crate) fn check(flows: &[Flow], packet: &Packet) -> Result<(), Refusal> {
         return Err(Refusal::BadRecord);
     }
     let is_other = |flow: &Flow| u64::from(flow.family) != packet.family;
-    match flows.iter().position(is_other) {
-        Some(place) => Err(Refusal::MixedFamily(place)),
+    if let Some(place) = flows.iter().position(is_other) {
+        return Err(Refusal::MixedFamily(place));
+    }
+    // Of two rules, to have none is to have another.
+    let differs = |flow: &Flow| flow.rule.distinguisher != flows[0].rule.distinguisher;
+    match flows.iter().position(differs) {
+        Some(place) => Err(Refusal::MixedDistinguisher(place)),
         None => Ok(()),
     }
 }

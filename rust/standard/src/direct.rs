@@ -1,11 +1,11 @@
 //! The chooser as one writes it for use, to time the proved one beside it.
 //!
-//! It makes the same checks in the same order and gives the same answers as `choose`: how many rules
-//! there are, the packet, each rule (one walk over its components and operators, which also counts
-//! the octets that it takes), the families. Then it goes over the rules once more and keeps the best
-//! that matches. It allocates nothing, asks for masks instead of bits, gives up a run of
-//! joined operators at the first that fails, a list at the first run that holds and a rule at the
-//! first component that does not match.
+//! It makes the same checks in the same order and gives the same answers as `choose`: how many
+//! rules there are, the packet, each rule (one walk over its components and operators, which also
+//! counts the octets that it takes), the families, the distinguishers. Then it goes over the rules
+//! once more and keeps the best that matches. It allocates nothing, asks for masks instead of bits,
+//! gives up a run of joined operators at the first that fails, a list at the first run that holds
+//! and a rule at the first component that does not match.
 //!
 //! What it asks of a prefix and of a list it asks of them wherever they stand: rules that are stored
 //! in another form than `Rule` can be chosen from in the same way.
@@ -32,6 +32,10 @@ pub fn choose(flows: &[Flow], packet: &Packet) -> Result<Option<usize>, Refusal>
     if let Some(place) = flows.iter().position(is_other) {
         return Err(Refusal::MixedFamily(place));
     }
+    let differs = |flow: &Flow| flow.rule.distinguisher != flows[0].rule.distinguisher;
+    if let Some(place) = flows.iter().position(differs) {
+        return Err(Refusal::MixedDistinguisher(place));
+    }
     let mut best: Option<usize> = None;
     for (place, flow) in flows.iter().enumerate() {
         let precedes = |best: usize| order(&flow.rule, &flows[best].rule) == Ordering::Less;
@@ -50,6 +54,9 @@ pub fn rank(one: &Flow, other: &Flow) -> Result<Ordering, Refusal> {
     if one.family != other.family {
         return Err(Refusal::MixedFamily(1));
     }
+    if one.rule.distinguisher != other.rule.distinguisher {
+        return Err(Refusal::MixedDistinguisher(1));
+    }
     Ok(order(&one.rule, &other.rule))
 }
 
@@ -58,7 +65,8 @@ fn is_well_formed(flow: &Flow) -> bool {
     if ![4, 6].contains(family) || rule.components.len() > COMPONENTS {
         return false;
     }
-    let (mut previous, mut operators, mut body) = (0, 0, 0);
+    let (mut previous, mut operators) = (0, 0);
+    let mut body = rule.distinguisher.map_or(0, |octets| octets.len());
     for Component { kind, content } in &rule.components {
         let octets = match content {
             Content::Prefix(prefix) => prefix_octets(*family, *kind, prefix),

@@ -22,6 +22,9 @@ pub fn rank(one: &Flow, other: &Flow) -> Result<Ordering, Refusal> {
     if one.family != other.family {
         return Err(Refusal::MixedFamily(1));
     }
+    if one.rule.distinguisher != other.rule.distinguisher {
+        return Err(Refusal::MixedDistinguisher(1));
+    }
     Ok(key(one).cmp(&key(other)))
 }
 
@@ -31,7 +34,8 @@ pub fn precedes(one: &Flow, other: &Flow) -> Result<bool, Refusal> {
 }
 
 /// Of two rules that are well-formed in one family that precedes whose key comes first in the order
-/// of dictionaries. For each component it has the type and what its content is compared by.
+/// of dictionaries. For each component it has the type and what its content is compared by; the
+/// distinguisher takes no part.
 pub(crate) fn key(flow: &Flow) -> Vec<u16> {
     let family = Family::of(flow.family).expect("the family was tested");
     let mut key = Vec::new();

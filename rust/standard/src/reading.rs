@@ -3,6 +3,7 @@
 use crate::octets::Octets;
 use crate::refusals::{Fault, Refusal};
 use crate::rules::{Address, Component, Content, Operator, Prefix, Rule};
+use crate::rules::{Distinguisher, DISTINGUISHER_OCTETS};
 use crate::terms::{code, is_ipv6_range, kind_of, most_code, width, without_reserved};
 use crate::terms::{Family, Kind, AND, END};
 
@@ -13,28 +14,57 @@ pub struct Reading {
     pub used: usize,
 }
 
-/// Reads the rule at the front of the input. The family is 4 or 6.
+/// Reads the rule at the front of the input. The family is 4 or 6, and no distinguisher is expected.
 pub fn read(family: u8, input: &[u8]) -> Result<Reading, Fault> {
+    read_rule(family, false, input)
+}
+
+/// As `read`, where a distinguisher is expected.
+pub fn read_distinguished(family: u8, input: &[u8]) -> Result<Reading, Fault> {
+    read_rule(family, true, input)
+}
+
+fn read_rule(family: u8, is_distinguished: bool, input: &[u8]) -> Result<Reading, Fault> {
     let family = Family::of(family)?;
     let mut octets = Octets::new(input);
     let used = octets.stated_end()?;
-    let components = read_body(family, octets.up_to(used))?;
+    let mut body = octets.up_to(used);
+    let distinguisher = match is_distinguished {
+        true => Some(read_distinguisher(&mut body)?),
+        false => None,
+    };
+    let components = read_components(family, &mut body)?;
     Ok(Reading {
-        rule: Rule { components },
+        rule: Rule {
+            distinguisher,
+            components,
+        },
         used,
     })
 }
 
+/// RFC 8955, 8: it stands before the first component and counts in the length. Where the body has
+/// fewer octets, the place is the body's end.
+fn read_distinguisher(body: &mut Octets) -> Result<Distinguisher, Fault> {
+    let mut distinguisher = [0; DISTINGUISHER_OCTETS];
+    let octets = body.take(DISTINGUISHER_OCTETS).map_err(|missing| Fault {
+        refusal: Refusal::ShortDistinguisher,
+        ..missing
+    })?;
+    distinguisher.copy_from_slice(octets);
+    Ok(distinguisher)
+}
+
 /// RFC 8955, 4.2: components to the end of the body.
-fn read_body(family: Family, mut body: Octets) -> Result<Vec<Component>, Fault> {
+fn read_components(family: Family, body: &mut Octets) -> Result<Vec<Component>, Fault> {
     let mut components = Vec::new();
     let mut previous = 0;
     while !body.is_at_end() {
-        let (found, kind) = read_type(family, previous, &mut body)?;
+        let (found, kind) = read_type(family, previous, body)?;
         let content = match (kind, family) {
-            (Kind::Prefix, Family::Ipv4) => Content::Prefix(read_ipv4(&mut body)?),
-            (Kind::Prefix, Family::Ipv6) => Content::Prefix(read_ipv6(&mut body)?),
-            _ => Content::List(read_list(found, kind, &mut body)?),
+            (Kind::Prefix, Family::Ipv4) => Content::Prefix(read_ipv4(body)?),
+            (Kind::Prefix, Family::Ipv6) => Content::Prefix(read_ipv6(body)?),
+            _ => Content::List(read_list(found, kind, body)?),
         };
         components.push(Component {
             kind: found,

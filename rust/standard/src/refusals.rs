@@ -29,10 +29,14 @@ pub enum Refusal {
     BadPacket,
     /// 14, with the place of the first rule that is of another family
     MixedFamily(usize),
+    /// 19, by the standard reading that expects a distinguisher
+    ShortDistinguisher,
+    /// 20, with the place of the first rule whose distinguisher is not that of the rule at place 0
+    MixedDistinguisher(usize),
 }
 
-/// Why a reading is refused and, for 1 to 6, the place of the wrong octet, counted from the start of
-/// the input (document 01, "What comes back").
+/// Why a reading is refused and, for 1 to 6 and 19, the place of the wrong octet, counted from the
+/// start of the input (document 01, "What comes back").
 #[derive(Debug, Clone, Copy, PartialEq, Eq)]
 pub struct Fault {
     pub refusal: Refusal,

@@ -1,8 +1,15 @@
 //! A rule, and what it is made of.
 
-/// A rule: its components, in order.
+/// How many octets a route distinguisher has.
+pub const DISTINGUISHER_OCTETS: usize = 8;
+/// A route distinguisher. Octets of 0 alone are one too.
+pub type Distinguisher = [u8; DISTINGUISHER_OCTETS];
+
+/// A rule: the distinguisher of the virtual network that it is for, if it is for one (RFC 8955, 8),
+/// and its components, in order.
 #[derive(Debug, Clone, PartialEq, Eq)]
 pub struct Rule {
+    pub distinguisher: Option<Distinguisher>,
     pub components: Vec<Component>,
 }
 

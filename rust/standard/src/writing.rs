@@ -5,13 +5,14 @@ use crate::rules::{Address, Component, Content, Operator, Prefix, Rule};
 use crate::terms::{code, is_ipv6_range, kind_of, most_code, width, without_reserved};
 use crate::terms::{Family, Kind, AND, BODY, COMPONENTS, END, OPERATORS};
 
-/// Writes a rule: its length and its body. The family is 4 or 6.
+/// Writes a rule: its length and its body, the distinguisher before the components (RFC 8955, 8).
+/// The family is 4 or 6.
 pub fn write(family: u8, rule: &Rule) -> Result<Vec<u8>, Refusal> {
     let family = Family::of(family)?;
     if !is_good_rule(family, rule) {
         return Err(Refusal::BadRecord);
     }
-    let mut body = Vec::new();
+    let mut body: Vec<u8> = rule.distinguisher.into_iter().flatten().collect();
     for component in &rule.components {
         write_component(family, component, &mut body);
     }

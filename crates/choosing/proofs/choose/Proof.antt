@@ -6,10 +6,10 @@ use native.Mathlib.Omega.{arith}
 use borrow.Author.Tests.{not-true, not-false, eq-eqb, ne-eqb}
 use borrow.Author.Needs.{needs}
 use Rattle.packets.specs.Packets.{Packet, packetOk, packetAt}
-use Rattle.choosing.specs.Choosing.{Table, table, rulesIn, toldChosen}
-use Rattle.choosing.specs.Passes.{foundBelow}
+use Rattle.choosing.specs.Choosing.{Table, table, rulesIn, likeFirst, firstFailing, toldChosen}
+use Rattle.choosing.specs.Passes.{placeOr, foundBelow}
 use Rattle.choosing.proofs.Demand3.{refuses-many, refuses-packet, refuses-words}
-use Rattle.choosing.proofs.ToldAnswers.{Ready, tells-bad, tells-mixed, tells-rule, tells-none, promised}
+use Rattle.choosing.proofs.ToldAnswers.{Ready, tells-bad, tells-mixed, tells-other, tells-rule, tells-none, promised}
 use Rattle.choosing.proofs.choose.Statement.{statement}
 use Rattle.choosing.proofs.choose.Tie as tie
 
@@ -78,23 +78,43 @@ returns-5 c =
     let s = start e in
     promised (tableOf s) (packetOf s) (ap toldChosen (c .refused5 .ensures)) (tells-mixed (tableOf s) (packetOf s) (ready e) _ (found k) (v .if4 .left) (m .if5 .taken))
 
+-- the first place of another distinguisher
+other : (c : tie.After-first-other) → let s = start (c .before .before .before .before .before .before) in
+    c .first-other .result ≡ placeOr (rulesIn (tableOf s)) (firstFailing (likeFirst (tableOf s)) (rulesIn (tableOf s)))
+other c = c .first-other .ensures
+
 returns-6 : tie.Need-returns-6
 returns-6 c =
-    let m = c .before in
+    let b = c .before in
+    let o = b .before in
+    let m = o .before in
     let v = m .before in
     let k = v .before .before in
     let e = k .before .before in
     let s = start e in
-    promised (tableOf s) (packetOf s) refl (tells-rule (tableOf s) (packetOf s) (ready e) _ (found k) (v .if4 .left) (m .if5 .left) (c .if6 .taken))
+    promised (tableOf s) (packetOf s) (ap toldChosen (c .refused6 .ensures)) (tells-other (tableOf s) (packetOf s) (ready e) _ (found k) (v .if4 .left) (m .if5 .left) _ (other o) (b .if6 .taken))
 
 returns-7 : tie.Need-returns-7
 returns-7 c =
-    let m = c .before in
+    let b = c .before in
+    let o = b .before in
+    let m = o .before in
     let v = m .before in
     let k = v .before .before in
     let e = k .before .before in
     let s = start e in
-    promised (tableOf s) (packetOf s) refl (tells-none (tableOf s) (packetOf s) (ready e) _ (found k) (v .if4 .left) (m .if5 .left) (c .if6 .left))
+    promised (tableOf s) (packetOf s) refl (tells-rule (tableOf s) (packetOf s) (ready e) _ (found k) (v .if4 .left) (m .if5 .left) _ (other o) (b .if6 .left) (c .if7 .taken))
+
+returns-8 : tie.Need-returns-8
+returns-8 c =
+    let b = c .before in
+    let o = b .before in
+    let m = o .before in
+    let v = m .before in
+    let k = v .before .before in
+    let e = k .before .before in
+    let s = start e in
+    promised (tableOf s) (packetOf s) refl (tells-none (tableOf s) (packetOf s) (ready e) _ (found k) (v .if4 .left) (m .if5 .left) _ (other o) (b .if6 .left) (c .if7 .left))
 
 pub choose-spec : {M : Type 1} → statement M
 choose-spec =
@@ -113,5 +133,8 @@ choose-spec =
     returns-4
     (λ c κs. search needs)
     returns-5
+    (λ c κs. search needs)
+    (λ c κs. search needs)
     returns-6
-    returns-7)
+    returns-7
+    returns-8)

@@ -1,6 +1,6 @@
 -- `krubbadin::krubbadin_check` meets its contract: the number names no reading, or the first pass of the one that it names answers.
 use mathlib.Core.Path.{sym, ap, _∙_}
-use Rattle.choices.specs.Choices.{toldStandard}
+use Rattle.choices.specs.Choices.{expects, toldStandard}
 use Rattle.reading.specs.Readings.{readAt}
 use Rattle.krubbadin.specs.declared.KrubbadinAnswer.{KrubbadinAnswer}
 use Rattle.krubbadin.specs.Surface.{readAnswer}
@@ -23,15 +23,16 @@ returns c =
     let w = k .before .before in
     let g = w .before .before in
     let s = g .args .input .now in
-    named-check s (sym (ap toldStandard (k .reading .given .1)) ∙ w .named-by .ensures)
-    (c .read-answer .ensures ∙ ap readAnswer (t .test .ensures), λ z. sure (t .test .result) (readAt (k .reading .given .0 .0) s) (t .test .ensures) (sym (ap (λ (x : KrubbadinAnswer). x .status) (c .read-answer .ensures)) ∙ z))
+    let d = expects (g .args .standard) in
+    named-check d s (sym (ap toldStandard (k .reading .given .1)) ∙ w .named-by .ensures)
+    (c .read-answer .ensures ∙ ap readAnswer (t .test .ensures), λ z. sure (t .test .result) (readAt (k .reading .given .0 .0) d s) (t .test .ensures) (sym (ap (λ (x : KrubbadinAnswer). x .status) (c .read-answer .ensures)) ∙ z))
 
 returns-2 : tie.Need-returns-2
 returns-2 c =
     let k = c .before .before in
     let w = k .before .before in
     let g = w .before .before in
-    named-check (g .args .input .now) (sym (ap toldStandard (k .fault .given .1)) ∙ w .named-by .ensures)
+    named-check (expects (g .args .standard)) (g .args .input .now) (sym (ap toldStandard (k .fault .given .1)) ∙ w .named-by .ensures)
     (c .refused .ensures, λ z. absurd (numbered (k .fault .given .0 .0 .error) (sym (ap (λ (x : KrubbadinAnswer). x .status) (c .refused .ensures)) ∙ z)))
 
 pub krubbadin-check-spec : {M : Type 1} → statement M

@@ -4,10 +4,12 @@ use mathlib.Core.Path.{_≡_, refl, sym, ap, _∙_}
 use native.Mathlib.Omega.{arith}
 use Rattle.measuring.specs.Bodies.{lent}
 use Rattle.stored.specs.Pieces.{pieceAt}
+use Rattle.stored.specs.Distinguishers.{distinguisherAt}
 use Rattle.stored.specs.Stored.{piecesFrom}
 use Rattle.measuring.specs.declared.Weight.{Weight}
 use Rattle.measuring.specs.Grounds.{operatorsIn, bodyOf, counted}
 use Rattle.measuring.specs.Weights.{weightOf}
+use Rattle.measuring.proofs.Laws.{distinguisher-most}
 use Rattle.measuring.proofs.Walks.{restFrom, walk-first, walk-large, walk-done, walk-bad, walk-more}
 use Rattle.measuring.proofs.Weights.{weight-few, weight-most}
 use borrow.Author.Needs.{needs}
@@ -15,24 +17,32 @@ use Rattle.measuring.proofs.measure_body.Statement.{statement}
 use Rattle.measuring.proofs.measure_body.Tie as tie
 use Rattle.measuring.proofs.measure_body.Reads as reads
 use Rattle.measuring.proofs.measure_body.Lts as lts
+use Rattle.measuring.proofs.front_size.Reads as front-size-reads
 use Rattle.measuring.proofs.weigh_at.Reads as weigh-at-reads
 
 abbrev Inv-loop : tie.InvT-loop
 Inv-loop writing words count first values octets body₀ left₀ previous₀ i₀ body left previous i =
-    (i ≤ count) × (left ≤ 2047) × (body ≤ 19 * i + 9 * (2047 - left))
-    × (counted (bodyOf writing (lent values octets first) (piecesFrom count words 0)) ≡ restFrom writing (lent values octets first) words count i left previous body)
+    (i ≤ count) × (left ≤ 2047) × (body ≤ 8 + 19 * i + 9 * (2047 - left))
+    × (counted (bodyOf writing (lent values octets first) (distinguisherAt words 0) (piecesFrom count words 0)) ≡ restFrom writing (lent values octets first) words count i left previous body)
 
 abbrev μ-loop : tie.MeasureT-loop
 μ-loop writing words count first values octets body₀ left₀ previous₀ i₀ body left previous i = count - i
 
 loop-holds : tie.Need-loop-holds Inv-loop μ-loop
-loop-holds c = let a = c .before .before .before .args in (omega arith, omega arith, omega arith, walk-first (a .writing) (lent (a .values .now) (a .octets .now) (a .first)) (a .words .now) (a .count))
+loop-holds c =
+    let a = c .before .before .before .before .args in
+    let d = distinguisherAt (a .words .now) 0 in (
+      omega arith,
+      omega arith,
+      omega (arith, c .front-size .ensures, distinguisher-most (a .writing) d),
+      walk-first (a .writing) (lent (a .values .now) (a .octets .now) (a .first)) (a .words .now) (a .count) d (c .front-size .ensures),
+    )
 
 returns : tie.Need-returns Inv-loop μ-loop
 returns c =
     let g = c .before .before in
     let o = g .before .before in
-    let a = o .before .before .before .before .args in
+    let a = o .before .before .before .before .before .args in
     let l = lent (a .values .now) (a .octets .now) (a .first) in
     let p = pieceAt (a .words .now) (4 * o .loop .i) in
     let r = g .weigh-at .result in
@@ -43,7 +53,7 @@ add-body : tie.Need-add-body Inv-loop μ-loop
 add-body c =
     let g = c .before .before .before in
     let o = g .before .before in
-    let a = o .before .before .before .before .args in
+    let a = o .before .before .before .before .before .args in
     let l = lent (a .values .now) (a .octets .now) (a .first) in
     let p = pieceAt (a .words .now) (4 * o .loop .i) in
     let r = g .weigh-at .result in
@@ -55,7 +65,7 @@ sub-left : tie.Need-sub-left Inv-loop μ-loop
 sub-left c =
     let g = c .before .before .before .before in
     let o = g .before .before in
-    let a = o .before .before .before .before .args in
+    let a = o .before .before .before .before .before .args in
     let l = lent (a .values .now) (a .octets .now) (a .first) in
     let p = pieceAt (a .words .now) (4 * o .loop .i) in
     let r = g .weigh-at .result in
@@ -67,7 +77,7 @@ loop-again : tie.Need-loop-again Inv-loop μ-loop
 loop-again c =
     let g = c .before .before .before .before in
     let o = g .before .before in
-    let a = o .before .before .before .before .args in
+    let a = o .before .before .before .before .before .args in
     let l = lent (a .values .now) (a .octets .now) (a .first) in
     let p = pieceAt (a .words .now) (4 * o .loop .i) in
     let r = g .weigh-at .result in
@@ -86,14 +96,14 @@ loop-again c =
 returns-2 : tie.Need-returns-2 Inv-loop μ-loop
 returns-2 c =
     let o = c .before .before in
-    let a = o .before .before .before .before .args in
+    let a = o .before .before .before .before .before .args in
     let l = lent (a .values .now) (a .octets .now) (a .first) in
     sym (o .loop .inv .3 ∙ walk-large (a .writing) l (a .words .now) (a .count) (o .loop .i) (o .loop .left) (o .loop .previous) (o .loop .body) (omega arith) (c .if2 .taken))
 
 returns-3 : tie.Need-returns-3 Inv-loop μ-loop
 returns-3 c =
     let o = c .before .before in
-    let a = o .before .before .before .before .args in
+    let a = o .before .before .before .before .before .args in
     let l = lent (a .values .now) (a .octets .now) (a .first) in
     sym (o .loop .inv .3 ∙ walk-done (a .writing) l (a .words .now) (a .count) (o .loop .i) (o .loop .left) (o .loop .previous) (o .loop .body) (omega arith) (c .if2 .left))
 
@@ -103,6 +113,7 @@ measure-body-spec =
     (tie.spec
     Inv-loop
     μ-loop
+    (λ c κs. search needs)
     loop-holds
     (λ c. search needs)
     (λ c κs. search needs)

@@ -4,6 +4,7 @@ use mathlib.Core.List.{List}
 use Prim.Native.Nat.{ℕ}
 use native.Mathlib.Omega.{arith}
 use lib.ListN.{length}
+use mathlib.Core.Bool.{false}
 use Rattle.choices.specs.declared.Reading.the-variants.{Plain}
 use Rattle.stored.specs.Stored.{ruleAt}
 use Rattle.nlri.specs.Nlri.{ruleIn}
@@ -23,7 +24,7 @@ returns c =
     let o = c .before .before .before .before .before .before .before .before .before .before .before .before .before .before in
     let g = o .before .args in
     let e = u .read-into .ensures in
-    (e .0, (k .rule-at .ensures .1 ∙ ap (λ (ws : List ℕ). ruleIn (ruleAt ws 0)) (e .1 .0) ∙ rule-back Plain (g .input .now) 64 (length (g .values .now)) (length (g .octets .now)) (λ i. omega (arith, o .shared-slice-known .given i)), (e .1 .1 .0, e .1 .1 .1)))
+    (e .0, (k .rule-at .ensures .1 ∙ ap (λ (ws : List ℕ). ruleIn (ruleAt ws 0)) (e .1 .0) ∙ rule-back Plain false (g .input .now) 64 (length (g .values .now)) (length (g .octets .now)) (λ i. omega (arith, o .shared-slice-known .given i)), (e .1 .1 .0, e .1 .1 .1)))
 
 pub parse-flowspec-nlri-spec : {M : Type 1} → statement M
 parse-flowspec-nlri-spec =

@@ -40,11 +40,12 @@ cast-t12 c =
 
 returns-3 : tie.Need-returns-3
 returns-3 c =
-    let n = c .before .before .before in
+    let f = c .before in
+    let n = f .before .before .before in
     let b = n .before .before in
     let a = b .before .before .before .args in
     let e = at-good (a .words .now) (a .place) (b .before .if1 .left) (sym (b .is-rule .ensures) ∙ not-false _ (n .before .if2 .left)) in
-    let w = rule-is (a .words .now) (64 * a .place) _ _ _ _ (c .before .before .slots-at .ensures) (n .count-at .ensures) (c .before .family-at .ensures) (c .first-at .ensures) in
+    let w = rule-is (a .words .now) (64 * a .place) _ _ _ _ _ (f .before .before .slots-at .ensures) (n .count-at .ensures) (f .before .family-at .ensures) (f .first-at .ensures) (c .distinguisher-at .ensures) in
     (ap (λ r. accepts (storedOf r)) w ∙ ap accepts (stored-again (a .words .now) (64 * a .place)) ∙ sym e, w ∙ sym (ap ruleIn e))
 
 pub rule-at-spec : {M : Type 1} → statement M
@@ -61,5 +62,6 @@ rule-at-spec =
     slots-at-requires
     (search needs)
     cast-t12
+    (search needs)
     (search needs)
     returns-3)

@@ -1,5 +1,6 @@
 -- `reading::read_into` meets its contract: what the first pass answers, then room, then the second pass (`Ways.antt`).
 use mathlib.Core.Path.{sym, ap, _∙_}
+use Rattle.choices.specs.Choices.{expects}
 use Rattle.reading.specs.Readings.{toldInto}
 use Rattle.reading.proofs.Rooms.{tested, room}
 use Rattle.reading.proofs.Ways.{test-refused, no-room, all-stored}
@@ -19,7 +20,7 @@ returns c =
     let w = t .before .before in
     let g = w .before .before .before .before .before in
     let q = sym (ap toldInto (t .tested2 .given .1)) ∙ w .test .ensures in
-    no-room (g .args .reading) (g .args .input .now) (g .args .words .now) (g .args .values .now) (g .args .octets .now) q (l .lacking .ensures) (c .if1 .taken)
+    no-room (g .args .reading) (expects (g .args .mode)) (g .args .input .now) (g .args .words .now) (g .args .values .now) (g .args .octets .now) q (l .lacking .ensures) (c .if1 .taken)
 
 store-requires : tie.Need-store-requires
 store-requires c κs =
@@ -29,13 +30,13 @@ store-requires c κs =
     let w = t .before .before in
     let g = w .before .before .before .before .before in
     let q = sym (ap toldInto (t .tested2 .given .1)) ∙ w .test .ensures in
-    (tested (g .args .reading) (g .args .input .now) q, room (g .args .reading) (g .args .input .now) _ _ _ q (l .lacking .ensures) (e .if1 .left))
+    (tested (g .args .reading) (expects (g .args .mode)) (g .args .input .now) q, room (g .args .reading) (expects (g .args .mode)) (g .args .input .now) _ _ _ q (l .lacking .ensures) (e .if1 .left))
 
 returns-2 : tie.Need-returns-2
 returns-2 c =
     let w = c .before .before .before in
     let g = w .before .before .before .before .before in
-    test-refused (g .args .reading) (g .args .input .now) (g .args .words .now) (g .args .values .now) (g .args .octets .now) (sym (ap toldInto (c .before .tested .given .1)) ∙ w .test .ensures)
+    test-refused (g .args .reading) (expects (g .args .mode)) (g .args .input .now) (g .args .words .now) (g .args .values .now) (g .args .octets .now) (sym (ap toldInto (c .before .tested .given .1)) ∙ w .test .ensures)
 
 returns-3 : tie.Need-returns-3
 returns-3 c =
@@ -46,7 +47,7 @@ returns-3 c =
     let w = t .before .before in
     let g = w .before .before .before .before .before in
     let q = sym (ap toldInto (t .tested2 .given .1)) ∙ w .test .ensures in
-    all-stored (g .args .reading) (g .args .input .now) (g .args .words .now) (g .args .values .now) (g .args .octets .now) q (l .lacking .ensures) (e .if1 .left) (p .store .ensures .0) (p .store .ensures .1 .0) (p .store .ensures .1 .1)
+    all-stored (g .args .reading) (expects (g .args .mode)) (g .args .input .now) (g .args .words .now) (g .args .values .now) (g .args .octets .now) q (l .lacking .ensures) (e .if1 .left) (p .store .ensures .0) (p .store .ensures .1 .0) (p .store .ensures .1 .1)
 
 pub read-into-spec : {M : Type 1} → statement M
 read-into-spec =

@@ -1,6 +1,7 @@
 -- `reading::test` meets its contract: the input is too long, has no length, or goes by its body.
 use mathlib.Core.Path.{sym, _∙_}
 use native.Mathlib.Omega.{arith}
+use Rattle.choices.specs.Choices.{expects}
 use Rattle.octets.proofs.Lengths.{read-none, field-short}
 use Rattle.reading.proofs.Ways.{over-long, no-length, by-field}
 use borrow.Author.Needs.{needs}
@@ -17,13 +18,13 @@ returns : tie.Need-returns
 returns c =
     let t = c .before in
     let g = t .before .before in
-    over-long (g .args .reading) (g .args .input .now) (sym (t .too-long .ensures) ∙ c .if1 .taken)
+    over-long (g .args .reading) (expects (g .args .mode)) (g .args .input .now) (sym (t .too-long .ensures) ∙ c .if1 .taken)
 
 returns-2 : tie.Need-returns-2
 returns-2 c =
     let t = c .before .before in
     let g = t .before .before in
-    no-length (g .args .reading) (g .args .input .now) (sym (t .too-long .ensures) ∙ c .before .if1 .left) (read-none (g .args .input .now) 0 (omega arith))
+    no-length (g .args .reading) (expects (g .args .mode)) (g .args .input .now) (sym (t .too-long .ensures) ∙ c .before .if1 .left) (read-none (g .args .input .now) 0 (omega arith))
 
 returns-3 : tie.Need-returns-3
 returns-3 c =
@@ -31,7 +32,7 @@ returns-3 c =
     let e = w .before .before .before in
     let t = e .before in
     let g = t .before .before in
-    no-length (g .args .reading) (g .args .input .now) (sym (t .too-long .ensures) ∙ e .if1 .left)
+    no-length (g .args .reading) (expects (g .args .mode)) (g .args .input .now) (sym (t .too-long .ensures) ∙ e .if1 .left)
     (field-short (g .args .input .now) 0 (omega arith) (omega (arith, w .length-width .ensures)))
 
 returns-4 : tie.Need-returns-4
@@ -41,7 +42,7 @@ returns-4 c =
     let e = w .before .before .before in
     let t = e .before in
     let g = t .before .before in
-    by-field (g .args .reading) (g .args .input .now) (sym (t .too-long .ensures) ∙ e .if1 .left)
+    by-field (g .args .reading) (expects (g .args .mode)) (g .args .input .now) (sym (t .too-long .ensures) ∙ e .if1 .left)
     (w .length-width .ensures) (v .length-value .ensures) (v .before .if3 .left) (c .test-body .ensures)
 
 pub test-spec : {M : Type 1} → statement M

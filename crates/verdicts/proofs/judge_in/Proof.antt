@@ -1,8 +1,12 @@
 -- `verdicts::judge_in` meets its contract: the invariant is `Judging`, what is left of the words to count and to match.
-use Prim.Native.Nat.{_-_}
+use Prim.Native.Nat.{_-_, _≤_}
 use mathlib.Core.Path.{sym, _∙_}
 use native.Mathlib.Omega.{arith}
 use borrow.Author.Tests.{not-true, not-false}
+use lib.ListN.{length}
+use Rattle.stored.specs.Distinguishers.{distinguisherAt}
+use Rattle.measuring.specs.Bodies.{distinguisherOctets}
+use Rattle.measuring.proofs.Laws.{distinguisher-most}
 use Rattle.packets.specs.Packets.{packetAt}
 use Rattle.verdicts.proofs.Judging.{Judging, judge-frame, judge-starts, judge-large, judge-ends, judge-stops, judge-goes, few, most-octets}
 use borrow.Author.Needs.{needs}
@@ -79,11 +83,35 @@ loop-again c =
     let l = k .before in
     judge-goes _ _ _ _ _ _ _ _ _ _ _ _ _ _ (l .before .loop .inv) (l .loop-test .taken) _ (k .step-at .ensures) (e .if2 .left)
 
+front-size-requires : tie.Need-front-size-requires Inv-loop μ-loop
+front-size-requires c κs = start (c .before .before) .pre .1 .0
+
+-- how many octets the distinguisher takes
+few-front : (o : tie.At-loop Inv-loop μ-loop) → let a = start o .args in length (distinguisherOctets (a .writing) (distinguisherAt (a .words .now) (a .base))) ≤ 8
+few-front o = let a = start o .args in distinguisher-most (a .writing) (distinguisherAt (a .words .now) (a .base))
+
+add-if4 : tie.Need-add-if4 Inv-loop μ-loop
+add-if4 c =
+    let o = c .before .before .before in
+    let v = o .loop .inv in
+    omega (arith, v .small, v .room, v .passed, v .most, c .front-size .ensures, few-front o)
+
 returns-3 : tie.Need-returns-3 Inv-loop μ-loop
-returns-3 c = let l = c .before in judge-large _ _ _ _ _ _ _ _ _ _ _ _ _ _ (l .before .loop .inv) (l .loop-test .left) (c .if3 .taken)
+returns-3 c =
+    let f = c .before in
+    let l = f .before .before in
+    judge-large _ _ _ _ _ _ _ _ _ _ _ _ _ _ (l .before .loop .inv) (l .loop-test .left) (omega (arith, f .front-size .ensures, c .if4 .taken))
 
 returns-4 : tie.Need-returns-4 Inv-loop μ-loop
-returns-4 c = let l = c .before in judge-ends _ _ _ _ _ _ _ _ _ _ _ _ _ _ (l .before .loop .inv) (l .loop-test .left) (c .if3 .left)
+returns-4 c =
+    let f = c .before in
+    let l = f .before .before in
+    judge-ends _ _ _ _ _ _ _ _ _ _ _ _ _ _ (l .before .loop .inv) (l .loop-test .left) (omega (arith, f .front-size .ensures, c .if4 .left))
+
+returns-5 : tie.Need-returns-5 Inv-loop μ-loop
+returns-5 c =
+    let l = c .before in
+    judge-ends _ _ _ _ _ _ _ _ _ _ _ _ _ _ (l .before .loop .inv) (l .loop-test .left) (omega (arith, c .if3 .left, few-front (l .before)))
 
 pub judge-in-spec : {M : Type 1} → statement M
 judge-in-spec =
@@ -105,5 +133,8 @@ judge-in-spec =
     (λ c. search needs)
     (λ c. search needs)
     loop-again
+    front-size-requires
+    add-if4
     returns-3
-    returns-4)
+    returns-4
+    returns-5)

@@ -51,17 +51,33 @@ returns-3 c =
     let other : eqb (familyAt (g .words .now) 0) (familyAt (g .words2 .now) 0) ≡ false = ap₂ eqb (sym (o .before .family-at .ensures)) (sym (o .family-at2 .ensures)) ∙ ne-eqb _ _ (c .if3 .taken) in
     rw (formed (d .before .before), formed2 d, other)
 
-compare-rules-requires : tie.Need-compare-rules-requires
-compare-rules-requires c κs = let d = c .before .before .before in (ready d, ready2 d)
+-- past the test of the families
+alike : (c : tie.Else3) → let g = c .before .before .before .before .before .before .before .before .before .before .before .before .before .args in
+    eqb (familyAt (g .words .now) 0) (familyAt (g .words2 .now) 0) ≡ true
+alike c = let o = c .before in ap₂ eqb (sym (o .before .family-at .ensures)) (sym (o .family-at2 .ensures)) ∙ eq-eqb _ _ (c .if3 .left)
+
+same-distinguisher-requires : tie.Need-same-distinguisher-requires
+same-distinguisher-requires c κs = let d = c .before .before .before in (ready2 d .whole, ready d .whole)
 
 returns-4 : tie.Need-returns-4
 unfolding rankVerdict
 returns-4 c =
-    let o = c .before .before in
-    let d = o .before .before in
-    let g = d .before .before .before .before .before .before .before .before .before .before .args in
-    let same : eqb (familyAt (g .words .now) 0) (familyAt (g .words2 .now) 0) ≡ true = ap₂ eqb (sym (o .before .family-at .ensures)) (sym (o .family-at2 .ensures)) ∙ eq-eqb _ _ (c .before .if3 .left) in
-    rw (formed (d .before .before), formed2 d, same, c .compare-rules .ensures)
+    let s = c .before in
+    let e = s .before in
+    let d = e .before .before .before in
+    rw (formed (d .before .before), formed2 d, alike e, sym (s .same-distinguisher .ensures) ∙ not-true _ (c .if4 .taken))
+
+compare-rules-requires : tie.Need-compare-rules-requires
+compare-rules-requires c κs = let d = c .before .before .before .before .before in (ready d, ready2 d)
+
+returns-5 : tie.Need-returns-5
+unfolding rankVerdict
+returns-5 c =
+    let f = c .before in
+    let s = f .before in
+    let e = s .before in
+    let d = e .before .before .before in
+    rw (formed (d .before .before), formed2 d, alike e, sym (s .same-distinguisher .ensures) ∙ not-false _ (f .if4 .left), c .compare-rules .ensures)
 
 pub rank-spec : {M : Type 1} → statement M
 rank-spec =
@@ -74,5 +90,7 @@ rank-spec =
     family-at-requires
     family-at-requires-2
     returns-3
+    same-distinguisher-requires
+    returns-4
     compare-rules-requires
-    returns-4)
+    returns-5)

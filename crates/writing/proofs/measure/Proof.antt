@@ -3,6 +3,7 @@ use Prim.Native.Nat.{ℕ}
 use mathlib.Core.Path.{sym, ap, ap₂, _∙_}
 use native.Mathlib.Omega.{arith}
 use borrow.Author.Tests.{not-true, not-false}
+use Rattle.stored.specs.Distinguishers.{distinguisherAt}
 use Rattle.stored.specs.Stored.{piecesFrom}
 use Rattle.stored.proofs.Words.{framed}
 use Rattle.measuring.specs.Bodies.{lent}
@@ -35,7 +36,7 @@ measure-body-requires c κs =
     let e = f .before .before in
     let a = e .before .before .before .before .args in
     let n = framed (a .words .now) 0 (sym (f .before .is-framed .ensures) ∙ not-false _ (f .if2 .left)) .few in
-    (omega (arith, n, c .before .count-at .ensures), omega (arith, n, c .before .count-at .ensures))
+    (omega (arith, n, c .before .count-at .ensures), e .if1 .left)
 
 returns-3 : tie.Need-returns-3
 returns-3 c =
@@ -44,7 +45,7 @@ returns-3 c =
     let e = f .before .before in
     let a = e .before .before .before .before .args in
     c .measure-body .ensures
-    ∙ ap₂ (λ (n m : ℕ). counted (bodyOf (a .writing) (lent (a .values .now) (a .octets .now) m) (piecesFrom n (a .words .now) 0))) (k .before .count-at .ensures) (k .first-at .ensures)
+    ∙ ap₂ (λ (n m : ℕ). counted (bodyOf (a .writing) (lent (a .values .now) (a .octets .now) m) (distinguisherAt (a .words .now) 0) (piecesFrom n (a .words .now) 0))) (k .before .count-at .ensures) (k .first-at .ensures)
     ∙ sym (ap counted (by-frame (a .writing) (a .words .now) (a .values .now) (a .octets .now) (e .if1 .left) (sym (f .before .is-framed .ensures) ∙ not-false _ (f .if2 .left))))
 
 pub measure-spec : {M : Type 1} → statement M

@@ -42,6 +42,8 @@ fn main() -> ExitCode {
     if wanted.standard {
         let forms = [Form::Standard(4), Form::Standard(6)];
         part(&mut comparison, "standard", &forms, &wanted);
+        let forms = [Form::WithDistinguisher(4), Form::WithDistinguisher(6)];
+        part(&mut comparison, "distinguished", &forms, &wanted);
         other_families(&mut comparison);
     }
     if wanted.choosing {
@@ -82,13 +84,13 @@ fn part(comparison: &mut Comparison, name: &str, forms: &[Form], wanted: &Wanted
     let mut random = Random::new(wanted.seed);
     let mut section = Section::new(comparison, name, "readings");
     for &form in forms {
-        inputs::by_rule(form, &mut |input| section.comparison.reading(form, input));
+        inputs::by_rule(form, &mut |input| read(section.comparison, form, input));
     }
     section.said("made by rule");
     let mut input = Vec::new();
     for (_, &form) in (0..wanted.cases).zip(forms.iter().cycle()) {
         inputs::random(form, &mut random, &mut input);
-        section.comparison.reading(form, &input);
+        read(section.comparison, form, &input);
     }
     section.said("random");
 
@@ -113,15 +115,33 @@ fn part(comparison: &mut Comparison, name: &str, forms: &[Form], wanted: &Wanted
     section.said("random");
 }
 
+/// A reading; of what has a distinguisher, all three.
+fn read(comparison: &mut Comparison, form: Form, input: &[u8]) {
+    if let Form::WithDistinguisher(family) = form {
+        comparison.reading(Form::Plain, input);
+        comparison.reading(Form::Standard(family), input);
+    }
+    comparison.reading(form, input);
+}
+
 /// Families that there are not: refused whatever comes with them.
 fn other_families(comparison: &mut Comparison) {
     let mut random = Random::new(0xF13);
     let (mut input, mut record) = (Vec::new(), Stored::new(0));
     let mut section = Section::new(comparison, "standard", "readings and writings");
     for family in (0..=255).filter(|family| ![4, 6].contains(family)) {
-        for like in [Form::Plain, Form::Standard(4), Form::Standard(6)] {
+        for like in [
+            Form::Plain,
+            Form::Standard(4),
+            Form::Standard(6),
+            Form::WithDistinguisher(4),
+            Form::WithDistinguisher(6),
+        ] {
             inputs::random(like, &mut random, &mut input);
             section.comparison.reading(Form::Standard(family), &input);
+            section
+                .comparison
+                .reading(Form::WithDistinguisher(family), &input);
             records::random(like, &mut random, &mut record);
             section.comparison.writing(Form::Standard(family), &record);
         }

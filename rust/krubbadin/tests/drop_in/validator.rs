@@ -161,13 +161,11 @@ pub fn built() -> Vec<FlowSpecNlri> {
     }
     for length in 0..=128 {
         let prefix = net(format!("2001:db8:1234:5678:9abc:def0:1234:5678/{length}"));
-        rules.push(FlowSpecNlri {
-            components: vec![
-                FlowSpecComponent::DestinationPrefix(prefix.clone()),
-                FlowSpecComponent::SourceIpv6Prefix { offset: length / 2, prefix },
-                FlowSpecComponent::Fragment(Vec::new()),
-            ],
-        });
+        rules.push(FlowSpecNlri::new(vec![
+            FlowSpecComponent::DestinationPrefix(prefix.clone()),
+            FlowSpecComponent::SourceIpv6Prefix { offset: length / 2, prefix },
+            FlowSpecComponent::Fragment(Vec::new()),
+        ]));
     }
     for value_length in [1, 2, 4, 8] {
         let one = NumericOperator {

@@ -8,6 +8,7 @@ use standard::{read, Address, Component, Content, Flow, Operator, Packet, Prefix
 
 pub fn rule(components: &[Component]) -> Rule {
     Rule {
+        distinguisher: None,
         components: components.to_vec(),
     }
 }

@@ -11,7 +11,7 @@ use inputs::{framed, octets};
 const CHECK: f64 = 1.0;
 
 /// RFC 8955, 4.3, first example: to 192.0.2.0/24, TCP, port 25.
-const TWELVE: &str = "0B 01 18 C0 00 02 03 81 06 04 81 19";
+pub const TWELVE: &str = "0B 01 18 C0 00 02 03 81 06 04 81 19";
 
 struct Case {
     name: String,
@@ -33,7 +33,7 @@ pub fn bench(sheet: &mut Sheet) -> bool {
     }
     sheet.heading("octets", ["proved", "Rust"]);
     for case in &cases {
-        let times = check_times(case, sheet);
+        let times = check_times(case.form, &case.input, sheet);
         let ratio = sheet.row("check", &case.name, case.input.len(), times);
         sheet.bars.extend(case.most.map(|most| Bar {
             what: format!("check, {}", case.name),
@@ -70,8 +70,7 @@ fn cases() -> Vec<Case> {
     cases
 }
 
-fn check_times(case: &Case, sheet: &mut Sheet) -> Times<2> {
-    let (form, input) = (case.form, &case.input[..]);
+pub fn check_times(form: Form, input: &[u8], sheet: &mut Sheet) -> Times<2> {
     sheet.times([
         &mut |calls| {
             let answer = || archive::check(form, opaque(input));

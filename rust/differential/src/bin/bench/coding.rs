@@ -200,7 +200,7 @@ fn answers_agree<'a>(cases: impl Iterator<Item = &'a Case>) -> bool {
 }
 
 /// Readings by the proved code.
-fn reading(form: Form, input: &[u8]) -> impl FnMut(u64) -> u64 + '_ {
+pub fn reading(form: Form, input: &[u8]) -> impl FnMut(u64) -> u64 + '_ {
     let (mut words, mut values) = ([0; WORDS], [0; MOST_OPERATORS]);
     let mut octets = [0; MOST_OPERATORS];
     move |calls| {
@@ -213,7 +213,7 @@ fn reading(form: Form, input: &[u8]) -> impl FnMut(u64) -> u64 + '_ {
 }
 
 /// Writings by the proved code of the rule that it reads.
-fn writing(form: Form, input: &[u8]) -> impl FnMut(u64) -> u64 {
+pub fn writing(form: Form, input: &[u8]) -> impl FnMut(u64) -> u64 {
     let mut stored = Stored::new(0);
     let accepted = peers::read(form, input, &mut stored).is_accepted();
     assert!(accepted, "these cases are accepted");

@@ -246,7 +246,7 @@ fn proved(case: &Case) -> impl FnMut(u64) -> u64 {
     }
 }
 
-fn choose_times(case: &Case, sheet: &mut Sheet) -> Times<3> {
+pub fn choose_times(case: &Case, sheet: &mut Sheet) -> Times<3> {
     let (table, words) = (&table(&case.rules), &packets::words(&case.packet));
     let (rules, packet) = (&case.rules[..], &case.packet);
     sheet.times([

@@ -8,6 +8,7 @@ mod changing;
 mod checking;
 mod coding;
 mod deciding;
+mod distinguished;
 mod owned;
 mod timing;
 
@@ -27,6 +28,7 @@ fn main() -> ExitCode {
         deciding::bench,
         changing::bench,
         owned::bench,
+        distinguished::bench,
     ];
     let mut sheet = Sheet::default();
     for round in 1..=ROUNDS {
