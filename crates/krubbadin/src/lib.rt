@@ -146,8 +146,8 @@ fn store_checked(
 }
 
 // Reads an NLRI: its rule to the first 64 words, its operators to the two lists. With `standard` 0 it is the
-// plain reading, which looks at no family; else the standard one in the family. One export for all readings: what they share has one caller
-// then, and the compiler makes one function of both.
+// plain reading, which looks at no family; else the standard one in the family, which with 2 expects a distinguisher. One export for all readings:
+// what they share has one caller then, and the compiler makes one function of both.
 #[no_mangle]
 pub extern "C" fn krubbadin_read(
     standard: u8,
@@ -195,7 +195,7 @@ fn write_answer(r: Written) -> KrubbadinAnswer
 }
 
 // Writes the rule that stands in the first 64 words, with its operators in the two lists, to the output. With `standard` 0 it
-// is the plain writing, else the standard one in the family.
+// is the plain writing, else the standard one in the family, which writes a distinguisher if the rule has one.
 #[no_mangle]
 pub extern "C" fn krubbadin_write(
     standard: u8,

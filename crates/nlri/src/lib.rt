@@ -1,4 +1,4 @@
-// The rule by value, FlowSpecNlri, to the words of a lent list and back. A rule by value is 432 bytes: it is the form for one rule, off the path
+// The rule by value, FlowSpecNlri, to the words of a lent list and back. A rule by value has more than 400 octets: it is the form for one rule, off the path
 // that lent rules take.
 //
 // The functions with a `requires` are no entry points.

@@ -3,7 +3,7 @@
 -- `short-told`). Behind eight octets it goes on as without one from there: the same components, the same refusals at the same places
 -- (`counts-on`), and with nothing behind them it is a rule with no components (`nothing-behind`).
 use Prim.Native.Nat.{ℕ, _+_, _-_, _≤_, _<_}
-use mathlib.Core.Path.{_≡_, refl, sym, _∙_, ap, ap₂}
+use mathlib.Core.Path.{_≡_, refl, sym, _∙_, ap, ap₂, subst}
 use mathlib.Core.Bool.{Bool, true, false}
 use mathlib.Core.List.{List, [], _∷_}
 use native.Mathlib.Omega.{arith}
@@ -37,26 +37,22 @@ plain-knows-none s w v o =
 
 -- ---- "A body of fewer than eight octets is then ShortDistinguisher, after the stated length is found to fit and before the first type"
 
-expected-by : (r : Reading) (rd : Bool) {n : ℕ} → n < frontOf r rd → (rd ≡ true) × ((r ≡ Plain → ⊥) × (n < 8))
+expected-by : (r : Reading) (rd : Bool) {n : ℕ} → n < frontOf r rd → rd ≡ true
 expected-by Plain rd h = absurd (omega arith)
-expected-by Ipv4 true h = (refl, (λ e. not-plain e, h))
-  where
-    not-plain : Ipv4 ≡ Plain → ⊥
-    not-plain e = let z : _≡_ {A = ℕ} 0 1 = cc in omega arith
+expected-by Ipv4 true h = refl
 expected-by Ipv4 false h = absurd (omega arith)
-expected-by Ipv6 true h = (refl, (λ e. not-plain e, h))
-  where
-    not-plain : Ipv6 ≡ Plain → ⊥
-    not-plain e = let z : _≡_ {A = ℕ} 0 1 = cc in omega arith
+expected-by Ipv6 true h = refl
 expected-by Ipv6 false h = absurd (omega arith)
+
+not-in-plain : (r : Reading) (rd : Bool) {n : ℕ} → n < frontOf r rd → r ≡ Plain → ⊥
+not-in-plain r rd {n} h e = let z : n < frontOf Plain rd = subst (λ (x : Reading). n < frontOf x rd) e h in omega arith
 
 -- only there
 pub short-only : (r : Reading) (rd : Bool) (s : List ℕ) (w v o : ℕ) (f : Refused) → readInto r rd s w v o ≡ declines f → f .number ≡ 19
     → (rd ≡ true) × ((r ≡ Plain → ⊥) × Short r rd s f)
 short-only r rd s w v o f e n =
     let h = read-meets r rd s w v o e .short n in
-    let k = expected-by r rd (h .few) in
-    (k .0, (k .1 .0, h))
+    (expected-by r rd (h .few), (not-in-plain r rd (h .few), h))
 
 -- and there always
 module _ (s : List ℕ) (l : Length) (first : lengthAt s 0 ≡ accepts l) (fits : l .next .at + l .size ≤ length s) (few : l .size < 8) where

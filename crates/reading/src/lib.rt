@@ -273,7 +273,7 @@ pub fn store(
     }
 }
 
-// Any of the readings, told whether a distinguisher is expected, to one rule place and to the operator lists. Nothing is written on a refusal, and places past the last one filled stay.
+// Any of the readings, with a mode, to one rule place and to the operator lists. Nothing is written on a refusal, and places past the last one filled stay.
 pub fn read_into(
     reading: Reading,
     mode: u8,
@@ -307,7 +307,7 @@ pub fn read_into(
     }
 }
 
-// The standard reading, family 4 or 6 given, and whether a distinguisher is expected.
+// The standard reading, family 4 or 6 given, and by the mode whether a distinguisher is expected.
 pub fn read(
     family: u8,
     mode: u8,

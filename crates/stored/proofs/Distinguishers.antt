@@ -1,7 +1,7 @@
 -- The two words of a distinguisher: what they name, and that what was put is what they name.
 use Prim.Native.Nat.{ℕ, _+_}
 use mathlib.Core.Path.{_≡_, refl, sym, ap, ap₂, _∙_}
-use mathlib.Core.Bool.{Bool, true, false, _&&_}
+use mathlib.Core.Bool.{true, false, _&&_, and-true}
 use mathlib.Core.List.{List}
 use native.Mathlib.Omega.{arith}
 use borrow.Author.Tests.{eq-eqb, ne-eqb, eqb-true, eqb-false}
@@ -28,11 +28,7 @@ module _ (ws : List ℕ) (at : ℕ) where
 
   pub test-is : (getD ws (at + 55) 0 ≡ 0 → ⊥) → eqb (getD ws (at + 55) 0) 1 ≡ isDistinguisher ws at
   unfolding isDistinguisher
-  test-is h = rw (← named-is h, eq-eqb (getD ws (at + 56) 0) (getD ws (at + 56) 0) refl) (and-true (eqb (getD ws (at + 55) 0) 1))
-    where
-      and-true : (a : Bool) → a ≡ (a && true)
-      and-true true = refl
-      and-true false = refl
+  test-is h = rw (← named-is h, eq-eqb (getD ws (at + 56) 0) (getD ws (at + 56) 0) refl) (sym (and-true (eqb (getD ws (at + 55) 0) 1)))
 
   -- what was put is what they name
   pub put-named : (d : Distinguisher) → getD ws (at + 55) 0 ≡ presenceWord d → getD ws (at + 56) 0 ≡ bitsWord d → distinguisherAt ws at ≡ d

@@ -3,7 +3,7 @@
 use Prim.Native.Nat.{ℕ, zero, suc, _+_, _-_, _*_, _/_, _%_, _^_, _≤_, _<_}
 use mathlib.Core.Path.{_≡_, refl, sym, ap, ap₂, _∙_}
 use mathlib.Core.List.{List, [], _∷_, _++_, append-assoc}
-use mathlib.Core.Bool.{Bool, true, false, _&&_}
+use mathlib.Core.Bool.{Bool, true, false, _&&_, and-true, and-false}
 use mathlib.Core.Logic.{⊎-elim}
 use native.Mathlib.Numerals.{add-one}
 use native.Mathlib.Omega.{arith}
@@ -237,17 +237,9 @@ module _ (ws : List ℕ) (at : ℕ) where
 
     pub frame-filled : (sum ≡ 0 → ⊥) → false ≡ isFramed ws at
     frame-filled h = sym (is ∙ rw (ne-eqb sum 0 h) (and-false (isDistinguisher ws at)))
-      where
-        and-false : (b : Bool) → (b && false) ≡ false
-        and-false true = refl
-        and-false false = refl
 
     pub frame-told : sum ≡ 0 → isDistinguisher ws at ≡ isFramed ws at
     frame-told h = sym (is ∙ rw (eq-eqb sum 0 h) (and-true (isDistinguisher ws at)))
-      where
-        and-true : (b : Bool) → (b && true) ≡ b
-        and-true true = refl
-        and-true false = refl
 
   pub many : 13 < countAt ws at → isFramed ws at ≡ false
   unfolding isFramed
