@@ -18,7 +18,7 @@ use Rattle.stored.specs.Distinguishers.{distinguisher_at, is_distinguisher}
 use Rattle.stored.specs.Stored.{all_words, tail_words, rule_words, pieces_from, records_from, zeros_from, is_framed, is_rule, rule_at, stored_at}
 use Rattle.prefixes.specs.Prefixes.{extent_at, prefix_at}
 use Rattle.lists.specs.Lists.{value_at, operator_at, list_from, list_at, ops_from, ops_at, recorded_ops}
-use Rattle.walk.specs.Walks.{typed_at, component_at, walk_from_lem, walk_at}
+use Rattle.walk.specs.Walks.{typed_at, component_at, walk_from, walk_at}
 use Rattle.packets.specs.Packets.{Packet, packet_ok}
 use Rattle.packets.specs.Shown.{numbers_of}
 use Rattle.listwriting.specs.Lists.{ends, takes, narrow}
@@ -247,5 +247,5 @@ abbrev said : Case → Said
 said c = c.says
 
 pub cases_hold : (anyone : Packet) → map (asked anyone) rows ≡ map said rows
-unfolding rows read_at stated_at front_at distinguisher_at is_distinguisher walk_at walk_from_lem component_at typed_at length_at extent_at prefix_at list_at list_from operator_at value_at ops_at ops_from recorded_ops kind_of refused_in spell written_from body_from body_in body_of standard_of length_octets spelled ops_in list_octets piece_octets body_octets all_operators piece_taken all_taken in_order taken_after ends takes narrow all_words tail_words rule_words named is_piece piece_of piece_at pieces_from records_from zeros_from is_framed is_rule rule_at well_formed match_verdict packet_ok numbers_of some_matches piece_matches rule_matches compared masked joined later groups all any list_matches packet from_to flagged to stored lower in_turn rank_front rank_compared rank_of all_below first_failing best_below chosen_in
+unfolding rows read_at stated_at front_at distinguisher_at is_distinguisher walk_at walk_from component_at typed_at length_at extent_at prefix_at list_at list_from operator_at value_at ops_at ops_from recorded_ops kind_of refused_in spell written_from body_from body_in body_of standard_of length_octets spelled ops_in list_octets piece_octets body_octets all_operators piece_taken all_taken in_order taken_after ends takes narrow all_words tail_words rule_words named is_piece piece_of piece_at pieces_from records_from zeros_from is_framed is_rule rule_at well_formed match_verdict packet_ok numbers_of some_matches piece_matches rule_matches compared masked joined later groups all any list_matches packet from_to flagged to stored lower in_turn rank_front rank_compared rank_of all_below first_failing best_below chosen_in
 cases_hold anyone = refl

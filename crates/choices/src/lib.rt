@@ -1,4 +1,6 @@
 // The choices by which the three readings part, and what an operator octet is to each. One walk serves all readings: it asks here.
+#![tactic(auto)]
+
 ghost use Rattle.std.specs.Prelude.{◌≡◌, ◌<◌, leb};
 ghost use Rattle.choices.specs.Choices.{bound_of, last_type, codes_by, codes_in, limit_of, first_in, front_of, family_of, standard_of, told_standard};
 
@@ -6,7 +8,7 @@ use operators::Kind;
 use refusals::{Fault, FlowSpecError, Place};
 
 // The plain reading follows the Rust; the others follow RFC 8955 (IPv4) and RFC 8956 (IPv6).
-#[derive(Drop)]
+#[derive(Clone, Copy)]
 pub enum Reading {
     Plain,
     Ipv4,
@@ -108,7 +110,7 @@ pub fn first(reading: Reading, octet: u8) -> u8
 }
 
 // The standard reading, or writing, that a family names.
-#[derive(Drop)]
+#[derive(Clone, Copy)]
 pub enum Standard {
     Is(Reading),
     Refused(Fault),

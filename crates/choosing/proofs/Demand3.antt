@@ -10,7 +10,7 @@
 -- there is no other answer of which this holds (`no_other`), and "no rule" is said exactly where none matches (`none_exactly`). In every other case it
 -- refuses, by the first of these that holds: more than 64 rules (12, with their number), a packet out of range (13), a rule that is not
 -- well-formed or words that make no whole rule (10), a rule of another family than the packet's (14, with the first such place), a rule of another
--- distinguisher than the rule at place 0 (20, with the first such place): `refuses-..`.
+-- distinguisher than the rule at place 0 (20, with the first such place): `refuses_..`.
 -- `chosen_in` is what the contract of `choosing::choose` cites, and `Decides` is in that contract too.
 use Prim.Native.Nat.{ℕ, zero, suc, ◌≤◌, ◌<◌}
 use mathlib.Core.Path.{◌≡◌, refl, sym, ap, ◌∙◌, subst}
@@ -74,7 +74,7 @@ no_other t p c d a b = only_one (matches_at t p) (rank_at t) (ordered t) (rules_
 -- the case that demand 3 speaks of
 pub record Fits (t : Table) (p : Packet) : Type 0 where
   pub few : rules_in t ≤ 64
-  pub in_range_lem : packet_ok p ≡ true
+  pub fields_in_range : packet_ok p ≡ true
   pub whole : whole_rules t ≡ true
   pub formed : (i : ℕ) → i < rules_in t → formed_at t i ≡ true
   pub of_family : (i : ℕ) → i < rules_in t → family_is t p.family i ≡ true
@@ -122,7 +122,7 @@ unfolding chosen_in
 accepts_where t p h =
     rw (
       le-ltb 64 (rules_in t) h.few,
-      h.in_range_lem,
+      h.fields_in_range,
       h.whole,
       all_true (formed_at t) (rules_in t) h.formed,
       no_first (family_is t p.family) (rules_in t) h.of_family,
@@ -145,7 +145,7 @@ by_places t p c none none a b e few ok whole =
       fits =
           record {
             few = few;
-            in_range_lem = ok;
+            fields_in_range = ok;
             whole = w.0;
             formed = all_below_lem (formed_at t) (rules_in t) w.1;
             of_family = a;

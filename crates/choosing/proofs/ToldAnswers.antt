@@ -15,7 +15,7 @@ use Rattle.choosing.proofs.Demand3.{decided}
 -- what was found before the pass
 pub record Ready (t : Table) (p : Packet) : Type 0 where
   pub few : rules_in t ≤ 64
-  pub in_range_lem : packet_ok p ≡ true
+  pub fields_in_range : packet_ok p ≡ true
   pub whole : whole_rules t ≡ true
 
 -- and by it: all well-formed, or not
@@ -28,7 +28,7 @@ module _ (t : Table) (p : Packet) (h : Ready t p) (f : Found) (e : f ≡ found_b
   unfolding chosen_in found_below
   tells_bad g =
       let a : all_below (formed_at t) (rules_in t) ≡ false = sym (ap (λ (x : Found). x.formed) e) ∙ not-true f.formed g in
-      rw (le-ltb 64 (rules_in t) h.few, h.in_range_lem, h.whole, a) refl
+      rw (le-ltb 64 (rules_in t) h.few, h.fields_in_range, h.whole, a) refl
 
   module _ (g : not f.formed ≡ false) where
     shows : (all_below (formed_at t) (rules_in t) ≡ true) × (f.mixed ≡ place_or (rules_in t) (first_failing (family_is t p.family) (rules_in t)))
@@ -39,7 +39,7 @@ module _ (t : Table) (p : Packet) (h : Ready t p) (f : Found) (e : f ≡ found_b
     tells : (c o d : Choice) → first_failing (family_is t p.family) (rules_in t) ≡ c → first_failing (like_first t) (rules_in t) ≡ o → best_below t p (rules_in t) ≡ d
         → unless_place 14 c (unless_place 20 o (accepts d)) ≡ chosen_in t p
     unfolding chosen_in
-    tells c o d k m q = rw (le-ltb 64 (rules_in t) h.few, h.in_range_lem, h.whole, shows.0, k, m, q) refl
+    tells c o d k m q = rw (le-ltb 64 (rules_in t) h.few, h.fields_in_range, h.whole, shows.0, k, m, q) refl
 
     pub tells_mixed : f.mixed < rules_in t → refuses 14 (f.mixed ∷ []) ≡ chosen_in t p
     tells_mixed l =

@@ -2,6 +2,8 @@
 // copied.
 //
 // The functions with a `requires` are no entry points.
+#![tactic(auto)]
+
 ghost use Rattle.std.specs.Prelude.{◌≡◌, true, [], ◌+◌, ◌*◌, ◌≤◌, ◌<◌, length};
 ghost use Rattle.packets.specs.Packets.{packet_ok, packet_at};
 ghost use Rattle.choosing.specs.Choosing.{table, formed_at, like_first, first_failing, chosen_in, told_chosen, Decided};
@@ -11,7 +13,7 @@ use ranking::Order;
 use refusals::{Fault, FlowSpecError, OuterError, Place};
 
 // The place of the rule that decides, or that none matches.
-#[derive(Drop)]
+#[derive(Clone, Copy)]
 pub enum Chosen {
     Rule(usize),
     NoRule,
@@ -20,7 +22,7 @@ pub enum Chosen {
 
 // What the pass finds: whether all rules are well-formed, and where they are, the first place of another family and the place of the rule that
 // decides; the number of rules where there is none.
-#[derive(Drop)]
+#[derive(Clone, Copy)]
 pub struct Found {
     pub formed: bool,
     pub mixed: usize,

@@ -188,6 +188,7 @@ module _ (w : Reading) (st : Standard w) (l m : Lent) where
 
   pub by_octets : (ps qs : List Piece) → Two ps qs → DifferByOctets (piece_octets w l) (piece_octets w m) ps qs → ranks ps qs ≡ rank_octets (body_octets w l ps) (body_octets w m qs)
   unfolding in_turn
+  by_octets [] [] t d = elim d [ ]
   by_octets [] (q ∷ qs) t first_ended = sym (first_none q qs t)
   by_octets (p ∷ ps) [] t second_ended = sym (second_none p ps t)
   by_octets (p ∷ ps) (q ∷ qs) t (here n s) =

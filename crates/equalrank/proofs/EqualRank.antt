@@ -1,5 +1,5 @@
 -- Equal rank means equal octets. Of any two well-formed rules of one family and one distinguisher, absent counting as its own (`Comparable`), over what the
--- public functions answer: `ranked_as` is what `verdicts::rank` and `krubbadin_rank` answer of two, `written_as_lem` what `writing::write` and
+-- public functions answer: `ranked_as` is what `verdicts::rank` and `krubbadin_rank` answer of two, `written_as` what `writing::write` and
 -- `krubbadin_write` put of one, told its family, and `standard_into` what `reading::read` and `krubbadin_read` answer.
 --
 -- (a) Ranking answers of two exactly if they are so (`ranks_where`, `ranks_only`), and the standard writing gives octets of each, 4,097 at most, wherever
@@ -12,9 +12,9 @@
 --     comparison of the bodies octet by octet, an ended body counting above every octet (`rank_by_octets`). Where it is not, it need not be: 10.0.0.0/16
 --     precedes 11.0.0.0/8, though `01 10` is above `01 08` (`not_by_octets`).
 --
--- The bits that two addresses share come from the count of leading zeros of the exclusive-or of the halves: the contracts of `ranking::shared_half` and
--- `shared_bits` over `sharedHalf` and `sharedBits` (crates/ranking/specs/Ranks.antt), which are those bits (`bits_shared` in
--- crates/ranking/proofs/LeadingBits.antt).
+-- The bits that two addresses share are counted by the leading zeros of the exclusive-or of the halves: the contracts of `ranking::shared_half` and
+-- `shared_bits` say that they answer how many first bits are the same (`Shares` in crates/ranking/specs/Ranks.antt); the leading zeros of two words are so
+-- many, and no other number is (`shares` and `shares_once` in crates/ranking/proofs/LeadingBits.antt).
 --
 -- Words are below 2 ^ 64, as their type has it (`Words`); this is asked where something is read. Assumes nothing else.
 use Prim.Native.Nat.{ℕ}
@@ -34,7 +34,7 @@ use Rattle.stored.specs.Pieces.{named, is_piece, piece_of, piece_at}
 use Rattle.stored.specs.Stored.{head, all_words, tail_words, rule_words, family_at, pieces_from, records_from, zeros_from, is_framed, is_rule, stored_at, rule_at}
 use Rattle.measuring.specs.Bodies.{piece_octets, body_octets}
 use Rattle.measuring.specs.Grounds.{all_operators, piece_taken, all_taken, in_order, taken_after, body_of}
-use Rattle.writing.specs.Writings.{body_from, body_in, nlri_octets, on_accepted, in_room, written_in_lem}
+use Rattle.writing.specs.Writings.{body_from, body_in, nlri_octets, on_accepted, in_room, written_in}
 use Rattle.reading.specs.Readings.{ReadRule, standard_into}
 use Rattle.roundtrips.specs.Trips.{expected, Words}
 use Rattle.ranking.specs.declared.Order.{Order}
@@ -42,7 +42,7 @@ use Rattle.ranking.specs.declared.Order.TheVariants.{Precedes, Equal, Follows}
 use Rattle.ranking.specs.Ranks.{lower, in_turn, rank_octets, rank_front, rank_compared, rank_of}
 use Rattle.ranking.proofs.Laws.{Ruled, One, first, neither, second, one_of_three, through}
 use Rattle.verdicts.specs.Verdicts.{well_formed, rank_verdict}
-use Rattle.equalrank.specs.Pairs.{Lending, pieces_of, lent_of, distinguisher_of, ranked_as, rank_by, written_as_lem, IsFormed, Comparable, Gives, OnePrecedes, first as the_first, second as the_second, SameRule, ByOctets}
+use Rattle.equalrank.specs.Pairs.{Lending, pieces_of, lent_of, distinguisher_of, ranked_as, rank_by, written_as, IsFormed, Comparable, Gives, OnePrecedes, first as the_first, second as the_second, SameRule, ByOctets}
 use Rattle.equalrank.proofs.CanonicalOctets.{canonical_octets}
 use Rattle.equalrank.proofs.LentRules.{writes, written_is, nlri_same, ranks_by, ranked_comparable}
 use Rattle.equalrank.proofs.PairedBodies.{both, equal_bodies, components_equal, bodies_equal, ordered_bodies}
@@ -61,14 +61,14 @@ with_room = writes
 
 -- ---- (b)
 
-pub equal_any_room : (a b : Lending) → ranked_as a b ≡ accepts Equal → (room : ℕ) → written_as_lem a room ≡ written_as_lem b room
-unfolding written_in_lem
+pub equal_any_room : (a b : Lending) → ranked_as a b ≡ accepts Equal → (room : ℕ) → written_as a room ≡ written_as b room
+unfolding written_in
 equal_any_room a b e room =
     let c = ranked_comparable a b Equal e in
     let p = both a b c in
     ap (λ (x : Answer (List ℕ)). on_accepted x (in_room room)) (p.has ∙ ap accepts (equal_bodies a b c e) ∙ sym p.has2)
 
-module _ (a b : Lending) (c : Comparable a b) (room room2 : ℕ) (xs ys : List ℕ) (e : written_as_lem a room ≡ accepts xs) (f : written_as_lem b room2 ≡ accepts ys) where
+module _ (a b : Lending) (c : Comparable a b) (room room2 : ℕ) (xs ys : List ℕ) (e : written_as a room ≡ accepts xs) (f : written_as b room2 ≡ accepts ys) where
   pub equal_exactly : (ranked_as a b ≡ accepts Equal → xs ≡ ys) × (xs ≡ ys → ranked_as a b ≡ accepts Equal)
   equal_exactly =
       let p = both a b c in
@@ -114,7 +114,7 @@ carries a b c e f =
 
 -- ---- (d)
 
-pub rank_by_octets : (a b : Lending) → Comparable a b → (room room2 : ℕ) (x y : List ℕ) → written_as_lem a room ≡ accepts (nlri_octets x) → written_as_lem b room2 ≡ accepts (nlri_octets y)
+pub rank_by_octets : (a b : Lending) → Comparable a b → (room room2 : ℕ) (x y : List ℕ) → written_as a room ≡ accepts (nlri_octets x) → written_as b room2 ≡ accepts (nlri_octets y)
     → (w : Reading) → standard_of (family_at a.words 0) ≡ accepts w → ByOctets w a b → ranked_as a b ≡ accepts (rank_octets x y)
 rank_by_octets a b c room room2 x y e f w i d =
     let p = both a b c in
@@ -127,8 +127,8 @@ abbrev one_prefix : ℕ → ℕ → Lending
 one_prefix len address = record { words = rule_words (Prefix 1 (Ipv4 len address) ∷ []) (head 4 0 Absent); values = []; octets = [] }
 
 pub not_by_octets : (ranked_as (one_prefix 16 167772160) (one_prefix 8 184549376) ≡ accepts Precedes)
-    × (written_as_lem (one_prefix 16 167772160) 5 ≡ accepts (4 ∷ 1 ∷ 16 ∷ 10 ∷ 0 ∷ []))
-    × (written_as_lem (one_prefix 8 184549376) 4 ≡ accepts (3 ∷ 1 ∷ 8 ∷ 11 ∷ []))
+    × (written_as (one_prefix 16 167772160) 5 ≡ accepts (4 ∷ 1 ∷ 16 ∷ 10 ∷ 0 ∷ []))
+    × (written_as (one_prefix 8 184549376) 4 ≡ accepts (3 ∷ 1 ∷ 8 ∷ 11 ∷ []))
     × (rank_octets (1 ∷ 16 ∷ 10 ∷ 0 ∷ []) (1 ∷ 8 ∷ 11 ∷ []) ≡ Follows)
-unfolding rank_verdict well_formed written_in_lem body_in body_from body_of standard_of length_octets spelled piece_octets body_octets all_operators piece_taken all_taken in_order taken_after all_words tail_words rule_words named is_piece piece_of piece_at pieces_from records_from zeros_from is_framed is_rule rule_at distinguisher_at is_distinguisher lower in_turn rank_front rank_compared rank_of
+unfolding rank_verdict well_formed written_in body_in body_from body_of standard_of length_octets spelled piece_octets body_octets all_operators piece_taken all_taken in_order taken_after all_words tail_words rule_words named is_piece piece_of piece_at pieces_from records_from zeros_from is_framed is_rule rule_at distinguisher_at is_distinguisher lower in_turn rank_front rank_compared rank_of
 not_by_octets = (refl, refl, refl, refl)

@@ -20,11 +20,11 @@ use Rattle.rules.specs.declared.Distinguisher.{Distinguisher}
 use Rattle.stored.specs.Distinguishers.{same_distinguisher}
 use Rattle.stored.specs.Stored.{family_at}
 use Rattle.stored.proofs.Distinguishers.{same_is, same_self}
-use Rattle.writing.specs.Writings.{nlri_octets, in_room, on_accepted, written_in_lem}
+use Rattle.writing.specs.Writings.{nlri_octets, in_room, on_accepted, written_in}
 use Rattle.writing.proofs.Laws.{short_nlri, long_nlri, Shown, shown, body_named, body_in_lem}
 use Rattle.ranking.specs.declared.Order.{Order}
 use Rattle.verdicts.specs.Verdicts.{accepted, well_formed, rank_verdict}
-use Rattle.equalrank.specs.Pairs.{Lending, distinguisher_of, ranked_as, rank_by, written_as_lem, body_as, IsFormed, Comparable, Gives}
+use Rattle.equalrank.specs.Pairs.{Lending, distinguisher_of, ranked_as, rank_by, written_as, body_as, IsFormed, Comparable, Gives}
 
 -- ---- one rule
 
@@ -55,14 +55,14 @@ formed a e = formed_by a (body_as a) refl e
 
 -- what is written is the body after its length, wherever there is room
 module _ (a : Lending) (xs : List ℕ) (e : body_as a ≡ accepts xs) (room : ℕ) where
-  by_room : written_as_lem a room ≡ in_room room xs
-  unfolding written_in_lem
+  by_room : written_as a room ≡ in_room room xs
+  unfolding written_in
   by_room = ap (λ (x : Answer (List ℕ)). on_accepted x (in_room room)) e
 
-  pub written_whole : length (nlri_octets xs) ≤ room → written_as_lem a room ≡ accepts (nlri_octets xs)
+  pub written_whole : length (nlri_octets xs) ≤ room → written_as a room ≡ accepts (nlri_octets xs)
   written_whole h = by_room ∙ rw (le-ltb room (length (nlri_octets xs)) h)
 
-  pub written_is : (ys : List ℕ) → written_as_lem a room ≡ accepts ys → ys ≡ nlri_octets xs
+  pub written_is : (ys : List ℕ) → written_as a room ≡ accepts ys → ys ≡ nlri_octets xs
   written_is ys f =
       by_test (ltb room (length (nlri_octets xs)))
       (λ t. never (rw t at (sym by_room ∙ f)))
@@ -76,7 +76,7 @@ pub writes : (a : Lending) → IsFormed a → Gives a
 writes a e =
     let f = formed a e in
     let n : length f.body ≤ 4095 = subst (λ (xs : List ℕ). length xs ≤ 4095) (sym f.shows.is) f.shows.taken.most in
-    record { out = nlri_octets f.body; most = nlri_most f.body n; in_room_lem = written_whole a f.body f.has }
+    record { out = nlri_octets f.body; most = nlri_most f.body n; in_room = written_whole a f.body f.has }
 
 -- the octets tell the body: their number tells its length
 body_long : (xs : List ℕ) (n : ℕ) → length (nlri_octets xs) ≡ n → ((length xs < 240) × (1 + length xs ≡ n)) ⊎ ((240 ≤ length xs) × (2 + length xs ≡ n))

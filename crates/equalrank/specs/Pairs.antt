@@ -9,7 +9,7 @@ use Rattle.stored.specs.declared.Piece.TheVariants.{Prefix, Operators, NoRecord}
 use Rattle.stored.specs.Distinguishers.{distinguisher_at}
 use Rattle.stored.specs.Stored.{family_at, first_at, stored_at}
 use Rattle.measuring.specs.Bodies.{Lent, lent, piece_octets}
-use Rattle.writing.specs.Writings.{body_in, written_in_lem}
+use Rattle.writing.specs.Writings.{body_in, written_in}
 use Rattle.ranking.specs.declared.Order.{Order}
 use Rattle.ranking.specs.declared.Order.TheVariants.{Precedes, Follows}
 use Rattle.ranking.specs.Ranks.{front_of, rank_of}
@@ -39,8 +39,8 @@ abbrev pub rank_by : Lending → Lending → Order
 rank_by a b = rank_of a.values a.octets (stored_at a.words 0) b.values b.octets (stored_at b.words 0)
 
 -- what `writing::write` and `krubbadin_write` answer and put, told the rule's own family, in so much room; and the body of it, which follows the length
-abbrev pub written_as_lem : Lending → ℕ → Answer (List ℕ)
-written_as_lem a room = written_in_lem (family_at a.words 0) a.words a.values a.octets room
+abbrev pub written_as : Lending → ℕ → Answer (List ℕ)
+written_as a room = written_in (family_at a.words 0) a.words a.values a.octets room
 
 abbrev pub body_as : Lending → Answer (List ℕ)
 body_as a = body_in (family_at a.words 0) a.words a.values a.octets
@@ -59,7 +59,7 @@ pub record Comparable (a b : Lending) : Type 0 where
 pub record Gives (a : Lending) : Type 0 where
   pub out : List ℕ
   pub most : length out ≤ 4097
-  pub in_room_lem : (room : ℕ) → length out ≤ room → written_as_lem a room ≡ accepts out
+  pub in_room : (room : ℕ) → length out ≤ room → written_as a room ≡ accepts out
 
 -- two that do not rank equal: one precedes, and the other is preceded
 pub data OnePrecedes (a b : Lending) : Type 0 where

@@ -1,7 +1,7 @@
 -- What a check says of a reading: status 0 is that it is accepted; a reading with room for all answers the same (`check_roomed`), and one without differs
 -- in 9, NoRoom, alone (`check_short`).
 use Prim.Native.Nat.{ℕ, ◌≤◌}
-use mathlib.Core.Path.{◌≡◌, refl, sym, ap, ◌∙◌}
+use mathlib.Core.Path.{◌≡◌, refl, sym, ap}
 use mathlib.Core.Bool.{Bool, true, false≢true}
 use mathlib.Core.List.{List, [], ◌∷◌}
 use mathlib.Core.Logic.{◌⊎◌, inl, inr}

@@ -1,5 +1,7 @@
 // The exported surface: plain numbers and slices, for C and Rust. Each function takes anything: words that are no rule, empty slices and
 // lists of unequal lengths are refused, not trusted. A slice is a pointer and then a length.
+#![tactic(auto)]
+
 ghost use Rattle.std.specs.Prelude.{◌≡◌, true, map, length};
 ghost use Rattle.std.proofs.lemmas.List.Edits.{sets};
 ghost use Rattle.operators.specs.Ops.{octet_of, number_of};
@@ -22,7 +24,7 @@ mod single;
 // What a call answers: status 0 and what it gives, or the refusal's number and what it carries, 0 where there is nothing to tell; and the place
 // of the octet that was refused.
 #[repr(C)]
-#[derive(Drop)]
+#[derive(Clone, Copy)]
 pub struct KrubbadinAnswer {
     pub status: u64,
     pub first: u64,

@@ -11,7 +11,7 @@ use refusals::{Fault, FlowSpecError, Place};
 // An operator record, 1 where a flag is set. `flags` are numeric 4 less, 2 greater, 1 equal; bitmask 2 NOT, 1 match. Where `status` is a
 // refusal's number, `carried` is what it carries and all else is 0.
 #[repr(C)]
-#[derive(Drop)]
+#[derive(Clone, Copy)]
 pub struct KrubbadinOperator {
     pub status: u64,
     pub carried: u64,

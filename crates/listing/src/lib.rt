@@ -2,6 +2,8 @@
 // What lies past the output's end is not stored, so over no output at all they measure: a listing is measured by the code that writes it.
 //
 // The functions with a `requires` are no entry points: they ask that places stay numbers of 64 bits, and that a list's operators are there.
+#![tactic(auto)]
+
 ghost use Rattle.std.specs.Prelude.{◌≡◌, [], ◌∷◌, map, ◌+◌, ◌≤◌, ◌<◌, length, take};
 ghost use Rattle.std.proofs.lemmas.List.Edits.{sets};
 ghost use Rattle.ground.specs.Picks.{pick};
@@ -20,7 +22,7 @@ use rules::NetworkPrefix;
 use stored::Piece;
 
 // How many octets the listing has.
-#[derive(Drop)]
+#[derive(Clone, Copy)]
 pub enum Listed {
     Octets(usize),
     Refused(Fault),

@@ -1,6 +1,8 @@
 // One list of operators: measured in a reading's first pass, which writes nothing and answers everything, and filled in its second,
 // which tests nothing again. Both go in runs of one width, by the same stride up to the list's end or to an operator that is none of the
 // run's. A list of one operator whose value is one octet has a step of its own in front.
+#![tactic(auto)]
+
 ghost use Rattle.std.specs.Prelude.{◌≡◌, false, map, ◌<◌, length, get_or};
 ghost use Rattle.std.proofs.lemmas.List.Edits.{sets};
 ghost use Rattle.ground.specs.Answers.{accepts};
@@ -16,20 +18,20 @@ use operators::Kind;
 use refusals::{Fault, FlowSpecError, Place};
 
 // How many operators were passed, and the place after them.
-#[derive(Drop)]
+#[derive(Clone, Copy)]
 pub struct Tally {
     pub count: usize,
     pub next: Cursor,
 }
 
-#[derive(Drop)]
+#[derive(Clone, Copy)]
 pub enum Listed {
     Done { count: usize, next: Cursor },
     Refused(Fault),
 }
 
 // How far a run went: how many operators were passed and the place after them, and whether the last of them had the end mark.
-#[derive(Drop)]
+#[derive(Clone, Copy)]
 pub struct Ran {
     pub count: usize,
     pub at: usize,

@@ -3,6 +3,8 @@
 //
 // The functions with a `requires` are no entry points: a writer has tested that the list lies within the lent lists and that there is
 // room before it writes the first octet, since a refusal changes nothing.
+#![tactic(auto)]
+
 ghost use Rattle.std.specs.Prelude.{◌≡◌, true, ◌+◌, ◌-◌, ◌*◌, ◌<◌, ◌≤◌, length, get_or};
 ghost use Rattle.std.proofs.lemmas.List.Edits.{sets};
 ghost use Rattle.octets.specs.Widths.{widths, code_in};
@@ -55,7 +57,7 @@ pub fn size(octets: &[u8], from: usize, count: usize) -> usize
 
 // What is joined over operators: the bits of their values past their widths, all bits of their octets, and how many octets write them. It is
 // tested once, after the last: a loop with no way out and no test costs less than one that stops early.
-#[derive(Drop)]
+#[derive(Clone, Copy)]
 pub struct Sum {
     pub over: u64,
     pub marks: u8,
@@ -258,7 +260,7 @@ pub fn taken_size(tag: u8, values: &[u64], octets: &[u8], from: usize, count: us
 }
 
 // How far a list is written: the place of the next operator and that of the next octet.
-#[derive(Drop)]
+#[derive(Clone, Copy)]
 pub struct Reached {
     pub next: usize,
     pub at: usize,

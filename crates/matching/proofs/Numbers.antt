@@ -8,7 +8,7 @@ use lib.ListN.{length, get_or}
 use Rattle.operators.specs.Ops.{Op}
 use Rattle.packets.specs.declared.Shown.{Shown}
 use Rattle.packets.specs.Packets.{packet_ok, packet_at}
-use Rattle.packets.specs.Shown.{numbers_of, place_of, shown_by_lem, numbers_in}
+use Rattle.packets.specs.Shown.{numbers_of, place_of, shown_by, numbers_in}
 use Rattle.packets.proofs.Lends.{are_twenty}
 use Rattle.packets.proofs.Shows.{shown_numbers, shown_within}
 use Rattle.satisfying.specs.declared.Test.{Test}
@@ -56,7 +56,7 @@ module _ (type : ℕ) (test : Test) (ops : List Op) (ws : List ℕ) where
         pass_on k = record { within = w.within; passed = omega arith; same = turn ∙ rw k }
 
   pub pass_starts : packet_ok (packet_at ws) ≡ true → (family : ℕ) → family ≡ (packet_at ws).family → test ≡ test_of family type
-      → (s : Shown) → s ≡ shown_by_lem ws (place_of type) → Passed s.from s.count 0
+      → (s : Shown) → s ≡ shown_by ws (place_of type) → Passed s.from s.count 0
   pass_starts ok family f t s e =
       record {
         within = omega (arith, are_twenty ws ok, shown_within ws type s e);

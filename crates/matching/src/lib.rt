@@ -1,6 +1,8 @@
 // Matching: whether a packet satisfies a component. It is taken in the words that lend it, and nothing of it is copied.
 //
 // Whether the packet is in range and the rule is well-formed is the chooser's to ask, before this: the functions with a `requires` are no entry points.
+#![tactic(auto)]
+
 ghost use Rattle.std.specs.Prelude.{◌≡◌, true, ◌+◌, ◌-◌, ◌≤◌, length};
 ghost use Rattle.std.specs.Int.Bits.{bit_xor};
 ghost use Rattle.wide.specs.Numbers.{num};

@@ -1,10 +1,10 @@
 -- Tests in turn: what a chain of them says, by the one that fails.
 use Prim.Native.Nat.{ℕ, ◌+◌, ◌-◌, ◌≤◌}
 use mathlib.Core.Path.{◌≡◌, refl, sym, ◌∙◌}
-use mathlib.Core.Bool.{Bool, true, false, not, ◌&&◌}
+use mathlib.Core.Bool.{Bool, true, false, ◌&&◌}
 use mathlib.Core.Logic.{◌⊎◌, ⊎_elim}
 use native.Mathlib.Omega.{arith}
-use borrow.Author.Tests.{le-leb, lt-leb, leb-true, leb-false, not-true, not-false}
+use borrow.Author.Tests.{le-leb, lt-leb, leb-true, leb-false}
 use lib.Dec.{leb}
 use Rattle.ground.proofs.Cases.{by_test}
 
@@ -19,12 +19,12 @@ leb_rest a b n h =
     (λ e. e ∙ sym (le-leb b (n - a) (omega (arith, leb-true (a + b) n e))))
     (λ e. e ∙ sym (lt-leb b (n - a) (omega (arith, leb-false (a + b) n e))))
 
--- a test of what a function told, negated
-pub told_false : {a b : Bool} → a ≡ b → not a ≡ true → b ≡ false
-told_false {a} e f = sym e ∙ not-true a f
+-- a test of what a function told
+pub told_false : {a b : Bool} → a ≡ b → a ≡ false → b ≡ false
+told_false e f = sym e ∙ f
 
-pub told_true : {a b : Bool} → a ≡ b → not a ≡ false → b ≡ true
-told_true {a} e f = sym e ∙ not-false a f
+pub told_true : {a b : Bool} → a ≡ b → a ≡ true → b ≡ true
+told_true e f = sym e ∙ f
 
 -- the first variant of an enum is none of the others
 pub not_later : ◌≡◌ {A = ℕ} 0 1 ⊎ ◌≡◌ {A = ℕ} 0 2 → ⊥

@@ -2,6 +2,8 @@
 // answers everything, so that a refusal changes nothing. One walk serves all writings; `Reading` says which it is.
 //
 // The functions with a `requires` are no entry points: `writing` has tested what they ask.
+#![tactic(auto)]
+
 ghost use Rattle.std.specs.Prelude.{◌≡◌, true, ◌&&◌, ltb, leb, ◌+◌, ◌*◌, ◌<◌, ◌≤◌, length};
 ghost use Rattle.ground.specs.Picks.{pick};
 ghost use Rattle.stored.specs.Pieces.{piece_at};
@@ -19,7 +21,7 @@ use stored::Piece;
 use wide::Wide;
 
 // What a component adds to a body: its octets, 0 where the writing does not take it; its type, and how many operators it names.
-#[derive(Drop)]
+#[derive(Clone, Copy)]
 pub struct Weight {
     pub octets: usize,
     pub tag: u8,
@@ -27,7 +29,7 @@ pub struct Weight {
 }
 
 // How many octets a body takes, or why there is none: BadRecord or ValueTooLarge.
-#[derive(Drop)]
+#[derive(Clone, Copy)]
 pub enum Measured {
     Body(usize),
     Refused(Fault),

@@ -1,12 +1,12 @@
 -- The rule by value in the plain reading and writing: the words of what was read are a rule's, so what is made of them is the rule; and what was stored
 -- is what is written.
-use Prim.Native.Nat.{ℕ, ◌+◌, ◌*◌, ◌/◌, ◌≤◌, ◌<◌}
+use Prim.Native.Nat.{ℕ, ◌/◌}
 use mathlib.Core.Path.{◌≡◌, refl, sym, ap, ◌∙◌}
 use mathlib.Core.Bool.{Bool, true, false, ◌||◌}
 use mathlib.Core.List.{List, []}
 use native.Mathlib.Omega.{arith}
 use borrow.Author.Tests.{lt-leb}
-use lib.Dec.{leb, ltb}
+use lib.Dec.{ltb}
 use lib.ListN.{length, replicate}
 use lib.Seq.{sets}
 use Rattle.ground.specs.Answers.{Answer, accepts, refuses, declines}
@@ -25,9 +25,9 @@ use Rattle.stored.specs.Stored.{head, stored_rule, all_words, tail_words, rule_w
 use Rattle.stored.proofs.Inverse.{put_read}
 use Rattle.reading.specs.Readings.{ReadRule, read_into, words_of}
 use Rattle.reading.proofs.Walked.{into_read, read_rule_lem, read_family, family_octet}
-use Rattle.writing.specs.Writings.{counted, octets_in, written_rule, written_from}
+use Rattle.writing.specs.Writings.{written_rule, written_from}
 use Rattle.writing.proofs.Ways.{Writes}
-use Rattle.writing.proofs.Laws.{written_as}
+use Rattle.writing.proofs.Laws.{written_as_lem}
 use Rattle.nlri.specs.declared.Stored.{Stored}
 use Rattle.nlri.specs.declared.Stored.TheVariants.{Done, Refused}
 use Rattle.nlri.specs.Nlri.{rule_in, stored_of, told_stored, store_answer}
@@ -79,4 +79,4 @@ module _ (ws : List ℕ) (r : FlowSpecNlri) (whole : length ws ≡ 64) (s : Stor
   pub value_is : s ≡ Done → (values octets : List ℕ) (room : ℕ) (w : List ℕ) → rule_at w 0 ≡ accepts (stored_of r) → written_from Plain w values octets room ≡ written_nlri r values octets room
   unfolding written_nlri
   value_is is values octets room w e =
-      written_as Plain w values octets (stored_of r) e room ∙ sym (ap (λ b. pick b (refuses 10 []) (written_rule Plain (stored_of r) values octets room)) (good is))
+      written_as_lem Plain w values octets (stored_of r) e room ∙ sym (ap (λ b. pick b (refuses 10 []) (written_rule Plain (stored_of r) values octets room)) (good is))

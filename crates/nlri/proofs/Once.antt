@@ -16,16 +16,16 @@ use Rattle.reading.proofs.Once.{into_once}
 use Rattle.nlri.specs.declared.Parsed.{Parsed}
 use Rattle.nlri.specs.Nlri.{told_answer, told_read, told_stored}
 
-abbrev stored_one_lem : Answer (Unit {0}) → Stored
-stored_one_lem (accepts u) = Done
-stored_one_lem (declines f) = NotStored (fault_of f)
+abbrev stored_one : Answer (Unit {0}) → Stored
+stored_one (accepts u) = Done
+stored_one (declines f) = NotStored (fault_of f)
 
-stored_one : (x : Stored) → stored_one_lem (told_stored x) ≡ x
-stored_one Done = refl
-stored_one (NotStored f) = ap NotStored (fault_back f)
+stored_one_lem : (x : Stored) → stored_one (told_stored x) ≡ x
+stored_one_lem Done = refl
+stored_one_lem (NotStored f) = ap NotStored (fault_back f)
 
 pub one_stored : (x y : Stored) → told_stored x ≡ told_stored y → x ≡ y
-one_stored x y e = sym (stored_one x) ∙ ap stored_one_lem e ∙ stored_one y
+one_stored x y e = sym (stored_one_lem x) ∙ ap stored_one e ∙ stored_one_lem y
 
 abbrev answer_one : Answer StoredRule → RuleAnswer
 answer_one (accepts s) = Accepted

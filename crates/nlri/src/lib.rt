@@ -2,6 +2,8 @@
 // that lent rules take.
 //
 // The functions with a `requires` are no entry points.
+#![tactic(auto)]
+
 ghost use Rattle.std.specs.Prelude.{◌≡◌, true, false, [], map, ◌+◌, ◌*◌, ◌≤◌, length};
 ghost use Rattle.std.proofs.lemmas.List.Edits.{sets};
 ghost use Rattle.ground.specs.Answers.{accepts};
@@ -24,20 +26,20 @@ use rules::{Distinguisher, FlowSpecComponent, FlowSpecNlri, NetworkPrefix, Slot,
 use stored::Piece;
 use writing::Written;
 
-#[derive(Drop)]
+#[derive(Clone, Copy)]
 pub enum RuleAnswer {
     Accepted,
     Refused(Fault),
 }
 
 // What stands at a place. An enum can't hold an array, so the rule stands beside the answer, empty on a refusal.
-#[derive(Drop)]
+#[derive(Clone, Copy)]
 pub struct RuleRead {
     pub answer: RuleAnswer,
     pub rule: FlowSpecNlri,
 }
 
-#[derive(Drop)]
+#[derive(Clone, Copy)]
 pub enum Stored {
     Done,
     Refused(Fault),
@@ -257,7 +259,7 @@ pub fn put_rule(words: &mut [u64], place: usize, rule: FlowSpecNlri) -> Stored
 }
 
 // A rule by value beside the answer, empty on a refusal: an enum can't hold an array.
-#[derive(Drop)]
+#[derive(Clone, Copy)]
 pub struct Parsed {
     pub answer: ReadInto,
     pub rule: FlowSpecNlri,

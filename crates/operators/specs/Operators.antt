@@ -1,7 +1,7 @@
 -- What an operator octet says with its value, and the octet of a record: RFC 8955, 4.2.1.1 and 4.2.1.2; document 01, "The length and the
 -- component walk". "0x80 .. 0x40 is AND. 0x30 shifted right by four picks the value width .. Numeric: 0x04 less, 0x02 greater, 0x01 equal.
 -- Bitmask: 0x02 NOT, 0x01 match."
-use Rattle.std.specs.Prelude.{ℕ, ◌+◌, ◌/◌, ◌%◌, ◌^◌, List, [], ◌∷◌, Bool, true, false, ◌||◌, leb, ltb, eqb}
+use Rattle.std.specs.Prelude.{ℕ, ◌+◌, ◌/◌, ◌%◌, ◌^◌, [], ◌∷◌, Bool, true, false, ◌||◌, ltb, eqb}
 use Rattle.ground.specs.Answers.{Answer, accepts, refuses}
 use Rattle.ground.specs.Picks.{pick}
 use Rattle.refusals.specs.Refusals.{refusal}

@@ -1,5 +1,7 @@
 // Operator octets as records and back, and the constructors: operators.rs of the Rust, names kept. Two names there mislead and are kept all
 // the same: AND joins an operator to the previous one, not the next, and `partial_match` sets the bit that asks for all of the mask.
+#![tactic(auto)]
+
 ghost use Rattle.std.specs.Prelude.{◌≡◌, true, false, ◌+◌, ◌≤◌};
 ghost use Rattle.operators.specs.Operators.{numeric_from, bitmask_from, numeric_octet, bitmask_octet, numeric_told, bitmask_told, octet_told, weight_of, code_part, least_width, octet_parts, is_width, comparing, masking};
 ghost use Rattle.operators.specs.Ops.{kind_of, cleared_in};
@@ -7,7 +9,7 @@ ghost use Rattle.operators.specs.Ops.{kind_of, cleared_in};
 use refusals::{Fault, FlowSpecError, Place};
 
 // What the operators of a list are.
-#[derive(Drop)]
+#[derive(Clone, Copy)]
 pub enum Kind {
     Numeric,
     Bitmask,
@@ -36,7 +38,7 @@ pub fn cleared(kind: Kind, octet: u8) -> u8
     }
 }
 
-#[derive(Drop)]
+#[derive(Clone, Copy)]
 pub struct NumericOperator {
     pub end_of_list: bool,
     pub and_with_next: bool,
@@ -47,7 +49,7 @@ pub struct NumericOperator {
     pub value: u64,
 }
 
-#[derive(Drop)]
+#[derive(Clone, Copy)]
 pub struct BitmaskOperator {
     pub end_of_list: bool,
     pub and_with_next: bool,
@@ -57,19 +59,19 @@ pub struct BitmaskOperator {
     pub bitmask: u64,
 }
 
-#[derive(Drop)]
+#[derive(Clone, Copy)]
 pub enum NumericRead {
     Operator(NumericOperator),
     Refused(Fault),
 }
 
-#[derive(Drop)]
+#[derive(Clone, Copy)]
 pub enum BitmaskRead {
     Operator(BitmaskOperator),
     Refused(Fault),
 }
 
-#[derive(Drop)]
+#[derive(Clone, Copy)]
 pub enum OctetMade {
     Octet(u8),
     Refused(Fault),

@@ -10,7 +10,7 @@ use borrow.Author.Tests.{le-ltb, eq-eqb, ne_eqb, eqb-true, eqb-false}
 use Rattle.ground.specs.Picks.{pick}
 use Rattle.ground.proofs.Cases.{by_test}
 use Rattle.wide.specs.Numbers.{wide}
-use Rattle.packets.specs.Packets.{Packet, absent, present, neither, both, address_fits, pair_fits_lem, field_fits_lem, label_fits, most_flags, family_ok, packet_ok, flags_ok, no_packet, packet_of, packet_at}
+use Rattle.packets.specs.Packets.{Packet, absent, present, neither, both, address_fits, pair_fits, field_fits, label_fits, most_flags, family_ok, packet_ok, flags_ok, no_packet, packet_of, packet_at}
 
 -- a number of two halves is below 2 ^ 32 if the upper is 0 and the lower is
 pub narrow : (h l : ℕ) → eqb h 0 && ltb l 4294967296 ≡ ltb (wide h l) 4294967296
@@ -18,13 +18,13 @@ narrow zero l = let e : wide 0 l ≡ l = omega arith in rw e
 narrow (suc h) l = rw (ne_eqb (suc h) 0 (λ e. omega (arith, e))) (sym (le-ltb (wide (suc h) l) 4294967296 (omega arith)))
 
 -- what may be absent fits, or there is none
-pub pair_fits : (none : Bool) (most a b : ℕ) → none || leb a most && leb b most ≡ pair_fits_lem most (pick none neither (both a b))
-pair_fits true most a b = refl
-pair_fits false most a b = refl
+pub pair_fits_lem : (none : Bool) (most a b : ℕ) → none || leb a most && leb b most ≡ pair_fits most (pick none neither (both a b))
+pair_fits_lem true most a b = refl
+pair_fits_lem false most a b = refl
 
-pub field_fits : (none : Bool) (most n : ℕ) → none || leb n most ≡ field_fits_lem most (pick none absent (present n))
-field_fits true most n = refl
-field_fits false most n = refl
+pub field_fits_lem : (none : Bool) (most n : ℕ) → none || leb n most ≡ field_fits most (pick none absent (present n))
+field_fits_lem true most n = refl
+field_fits_lem false most n = refl
 
 pub label_fits_lem : (none : Bool) (family n : ℕ) → none || not (eqb family 4) && leb n 1048575 ≡ label_fits family (pick none absent (present n))
 label_fits_lem true family n = refl
@@ -50,7 +50,7 @@ module _ (ws : List ℕ) where
 
   -- by what the code has tested of addresses, ports, ICMP fields, flags and label
   pub twenty : (d s p i f l : Bool) → d ≡ address_fits (get_or ws 0 0) (packet_of ws).destination → s ≡ address_fits (get_or ws 0 0) (packet_of ws).source
-      → p ≡ pair_fits_lem 65535 (packet_of ws).ports → i ≡ pair_fits_lem 255 (packet_of ws).icmp → f ≡ field_fits_lem most_flags (packet_of ws).flags
+      → p ≡ pair_fits 65535 (packet_of ws).ports → i ≡ pair_fits 255 (packet_of ws).icmp → f ≡ field_fits most_flags (packet_of ws).flags
       → l ≡ label_fits (get_or ws 0 0) (packet_of ws).label → length ws ≡ 20
       → flags_ok ws && (family_ok (get_or ws 0 0) && d && s && leb (get_or ws 5 0) 255 && leb (get_or ws 6 0) 65575 && leb (get_or ws 7 0) 63 && leb (get_or ws 8 0) 15 && p && i && f && l)
       ≡ packet_ok (packet_at ws)

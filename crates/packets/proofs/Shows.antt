@@ -13,7 +13,7 @@ use Rattle.wide.specs.Numbers.{wide}
 use Rattle.packets.specs.declared.Place.{Place}
 use Rattle.packets.specs.declared.Shown.{Shown}
 use Rattle.packets.specs.Packets.{absent, present, neither, both, packet_ok, packet_of, packet_at}
-use Rattle.packets.specs.Shown.{known, former, latter, either, numbers_of, placed, place_of, shown, shown_by_lem, numbers_in}
+use Rattle.packets.specs.Shown.{known, former, latter, either, numbers_of, placed, place_of, shown, shown_by, numbers_in}
 use Rattle.packets.proofs.Lends.{lends, a_family}
 
 -- ---- the places are among the words
@@ -52,14 +52,14 @@ address_within false = omega arith
 module _ (ws : List ℕ) where
   -- by the test that the code makes
   module _ (x y : Place) (e : y ≡ x) where
-    pub shown_none : get_or ws y.flag 0 ≡ 0 → shown y.from 0 ≡ shown_by_lem ws x
+    pub shown_none : get_or ws y.flag 0 ≡ 0 → shown y.from 0 ≡ shown_by ws x
     shown_none h = rw (← e, eq-eqb (get_or ws y.flag 0) 0 h)
 
-    pub shown_some : (get_or ws y.flag 0 ≡ 0 → ⊥) → shown y.from y.count ≡ shown_by_lem ws x
+    pub shown_some : (get_or ws y.flag 0 ≡ 0 → ⊥) → shown y.from y.count ≡ shown_by ws x
     shown_some h = rw (← e, ne_eqb (get_or ws y.flag 0) 0 h)
 
   abbrev held : Place → List ℕ
-  held x = numbers_in ws x.from (shown_by_lem ws x).count
+  held x = numbers_in ws x.from (shown_by ws x).count
 
   -- what may be absent, by its flag
   flagged : {A : Type 0} (f : A → List ℕ) (none : Bool) (x y : A) (from count : ℕ) → f x ≡ [] → f y ≡ numbers_in ws from count
@@ -98,12 +98,12 @@ module _ (ws : List ℕ) where
         (no_numbers (flag 0)))))))))))))))))))))))
 
     -- what `shown_to` answers holds the numbers
-    pub shown_numbers : (type : ℕ) (s : Shown) → s ≡ shown_by_lem ws (place_of type) → numbers_of (packet_at ws) type ≡ numbers_in ws s.from s.count
+    pub shown_numbers : (type : ℕ) (s : Shown) → s ≡ shown_by ws (place_of type) → numbers_of (packet_at ws) type ≡ numbers_in ws s.from s.count
     shown_numbers type s e = rw (lends ws ok, e) (by_rows type)
 
   fewer : (b : Bool) (n : ℕ) → pick b 0 n ≤ n
   fewer true n = omega arith
   fewer false n = omega arith
 
-  pub shown_within : (type : ℕ) (s : Shown) → s ≡ shown_by_lem ws (place_of type) → s.from + s.count ≤ 20
+  pub shown_within : (type : ℕ) (s : Shown) → s ≡ shown_by ws (place_of type) → s.from + s.count ≤ 20
   shown_within type s e = rw e (omega (arith, fewer (eqb (get_or ws (place_of type).flag 0) 0) (place_of type).count, (place_within type).1))

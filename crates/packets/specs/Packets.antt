@@ -39,13 +39,13 @@ abbrev pub address_fits : ℕ → ℕ → Bool
 address_fits family a = not (eqb family 4) || ltb a (2 ^ 32)
 
 -- a field that is absent has no number to be out of range
-abbrev pub pair_fits_lem : ℕ → Pair → Bool
-pair_fits_lem most neither = true
-pair_fits_lem most (both a b) = leb a most && leb b most
+abbrev pub pair_fits : ℕ → Pair → Bool
+pair_fits most neither = true
+pair_fits most (both a b) = leb a most && leb b most
 
-abbrev pub field_fits_lem : ℕ → Field → Bool
-field_fits_lem most absent = true
-field_fits_lem most (present n) = leb n most
+abbrev pub field_fits : ℕ → Field → Bool
+field_fits most absent = true
+field_fits most (present n) = leb n most
 
 -- "a flow label (to 1,048,575; never in family 4)"
 abbrev pub label_fits : ℕ → Field → Bool
@@ -71,9 +71,9 @@ packet_ok p =
     && leb p.length 65575
     && leb p.dscp 63
     && leb p.fragment 15
-    && pair_fits_lem 65535 p.ports
-    && pair_fits_lem 255 p.icmp
-    && field_fits_lem most_flags p.flags
+    && pair_fits 65535 p.ports
+    && pair_fits 255 p.icmp
+    && field_fits most_flags p.flags
     && label_fits p.family p.label
 
 -- ---- words: how a host lends a packet. Each field that may be absent has a word before it, 0 or 1; behind a 0 nothing is looked at

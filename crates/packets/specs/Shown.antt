@@ -68,8 +68,8 @@ place_of type =
 abbrev pub shown : ℕ → ℕ → Shown
 shown from count = record { from = from; count = count }
 
-abbrev pub shown_by_lem : List ℕ → Place → Shown
-shown_by_lem ws x = shown x.from (pick (eqb (get_or ws x.flag 0) 0) 0 x.count)
+abbrev pub shown_by : List ℕ → Place → Shown
+shown_by ws x = shown x.from (pick (eqb (get_or ws x.flag 0) 0) 0 x.count)
 
 -- count numbers from a word on
 unfoldable pub numbers_in : List ℕ → ℕ → ℕ → List ℕ

@@ -8,11 +8,13 @@
 //   17 whether there is a flow label    18 label         19 always 0
 //
 // The functions with a `requires` are no entry points: they serve a caller that has checked the words.
+#![tactic(auto)]
+
 ghost use Rattle.std.specs.Prelude.{◌≡◌, true, eqb};
 ghost use Rattle.ground.specs.Picks.{pick};
 ghost use Rattle.wide.specs.Numbers.{num, wide};
-ghost use Rattle.packets.specs.Packets.{address_fits, pair_fits_lem, field_fits_lem, label_fits, pair_of, field_of, packet_ok, packet_at};
-ghost use Rattle.packets.specs.Shown.{address_of, placed, place_of, shown_by_lem};
+ghost use Rattle.packets.specs.Packets.{address_fits, pair_fits, field_fits, label_fits, pair_of, field_of, packet_ok, packet_at};
+ghost use Rattle.packets.specs.Shown.{address_of, placed, place_of, shown_by};
 
 use wide::Wide;
 
@@ -26,13 +28,13 @@ fn address_fits(family: u64, high: u64, low: u64) -> bool
 }
 
 fn pair_fits(flag: u64, a: u64, b: u64, most: u64) -> bool
-    ensures { result ≡ pair_fits_lem most (pair_of flag a b) }
+    ensures { result ≡ pair_fits most (pair_of flag a b) }
 {
     (flag == 0) | ((a <= most) & (b <= most))
 }
 
 fn field_fits(flag: u64, n: u64, most: u64) -> bool
-    ensures { result ≡ field_fits_lem most (field_of flag n) }
+    ensures { result ≡ field_fits most (field_of flag n) }
 {
     (flag == 0) | (n <= most)
 }
@@ -97,7 +99,7 @@ pub fn address_of(packet: &[u64], tag: u8) -> Wide
 }
 
 // Where the words hold the numbers that lists of a type are put to: so many from a word on, unless another word is 0.
-#[derive(Drop)]
+#[derive(Clone, Copy)]
 pub struct Place {
     pub flag: usize,
     pub from: usize,
@@ -135,7 +137,7 @@ fn place_of(tag: u8) -> Place
 }
 
 // The numbers that a list is put to, in the packet's words: so many from a word on.
-#[derive(Drop)]
+#[derive(Clone, Copy)]
 pub struct Shown {
     pub from: usize,
     pub count: usize,
@@ -144,7 +146,7 @@ pub struct Shown {
 // The numbers that a list of a type is put to. No entry point.
 pub fn shown_to(packet: &[u64], tag: u8) -> Shown
     requires { packet_ok (packet_at packet.now) ≡ true }
-    ensures { result ≡ shown_by_lem packet.now (place_of tag) }
+    ensures { result ≡ shown_by packet.now (place_of tag) }
 {
     let place = place_of(tag);
     let flag = place.flag;

@@ -3,6 +3,8 @@
 //
 // The octets of an IPv4 prefix are the first of its address. Those of an IPv6 prefix are read as one number, which is then moved to its place
 // in the address. The functions with a `requires` are no entry points.
+#![tactic(auto)]
+
 ghost use Rattle.std.specs.Prelude.{◌≡◌, true, ◌+◌, ◌-◌, ◌*◌, ◌^◌, ◌<◌, ◌≤◌, length, take, drop};
 ghost use Rattle.ground.specs.Answers.{accepts};
 ghost use Rattle.wide.specs.Numbers.{num};
@@ -18,7 +20,7 @@ use rules::NetworkPrefix;
 use wide::Wide;
 
 // Where a prefix stands: its length and its offset, 0 where it has none, the place of its first address octet, and the cursor after its last.
-#[derive(Drop)]
+#[derive(Clone, Copy)]
 pub struct Extent {
     pub length: u8,
     pub offset: u8,
@@ -26,20 +28,20 @@ pub struct Extent {
     pub next: Cursor,
 }
 
-#[derive(Drop)]
+#[derive(Clone, Copy)]
 pub enum ExtentRead {
     Is(Extent),
     Refused(Fault),
 }
 
 // A prefix, and the cursor after it.
-#[derive(Drop)]
+#[derive(Clone, Copy)]
 pub struct PrefixAt {
     pub prefix: NetworkPrefix,
     pub next: Cursor,
 }
 
-#[derive(Drop)]
+#[derive(Clone, Copy)]
 pub enum PrefixRead {
     Whole(PrefixAt),
     Refused(Fault),

@@ -2,6 +2,8 @@
 //
 // The functions with a `requires` are no entry points: a writer has tested every prefix and counted its octets before it writes the first,
 // since a refusal changes nothing.
+#![tactic(auto)]
+
 ghost use Rattle.std.specs.Prelude.{◌≡◌, ◌∷◌, true, ◌+◌, ◌-◌, ◌*◌, ◌≤◌, length};
 ghost use Rattle.std.proofs.lemmas.List.Edits.{sets};
 ghost use Rattle.octets.specs.Spell.{spelled};

@@ -5,6 +5,8 @@
 //
 // The functions with a `requires` are no entry points: whoever ranks rules has tested that they are rules and that their operators are within
 // the lent lists.
+#![tactic(auto)]
+
 ghost use Rattle.std.specs.Prelude.{◌≡◌, true, List, ℕ, ◌+◌, ◌≤◌, min, length};
 ghost use Rattle.wide.specs.Numbers.{num};
 ghost use Rattle.operators.specs.Ops.{op, ops_in, list_octets};
@@ -18,7 +20,7 @@ use stored::Piece;
 use wide::Wide;
 
 // What the first of two is to the second.
-#[derive(Drop)]
+#[derive(Clone, Copy)]
 pub enum Order {
     Precedes,
     Equal,
@@ -26,7 +28,7 @@ pub enum Order {
 }
 
 // A prefix as it is ranked, its address at the front of 128 bits.
-#[derive(Drop)]
+#[derive(Clone, Copy)]
 pub struct Front {
     pub offset: u8,
     pub length: u8,

@@ -17,13 +17,13 @@ use Rattle.operators.specs.Ops.{Op}
 use Rattle.stored.specs.declared.Piece.{Piece}
 use Rattle.stored.proofs.Inverse.{FitPrefix, Fit, FitAll}
 use Rattle.prefixes.specs.declared.PrefixAt.{PrefixAt}
-use Rattle.prefixes.specs.Prefixes.{octets_of, offset_in, named_at, front_address, plain_prefix, ipv4_prefix, made_in, spelled_at, prefix_from, prefix_at}
+use Rattle.prefixes.specs.Prefixes.{octets_of, offset_in, named_at, front_address, plain_prefix, ipv4_prefix, made_in, spelled_at, prefix_at}
 use Rattle.prefixes.proofs.Addresses.{front_lt}
 use Rattle.prefixes.proofs.Laws.{Ranged, taken_ranged, prefix_ways}
 use Rattle.prefixes.proofs.Accepted.{Octets, taken_value, front_value}
 use Rattle.lists.specs.declared.Tally.{Tally}
 use Rattle.lists.specs.Lists.{list_at, ops_at, recorded_ops}
-use Rattle.walk.specs.Walks.{FoundAt, prefix_found, list_found, component_at, Body, joined, turn, walk_from_lem, walk_at}
+use Rattle.walk.specs.Walks.{FoundAt, prefix_found, list_found, component_at, Body, joined, turn, walk_from, walk_at}
 use Rattle.walk.proofs.Ways.{typed_prefix, typed_list}
 use Rattle.walk.proofs.Components.{Here, here}
 
@@ -103,14 +103,14 @@ by_found r s at previous start b o go ih (accepts p) i e =
     (λ x w. ih p.next (get_or s at 0) (start + length p.operators) x d.most w) e
 by_found r s at previous start b o go ih (declines f) i e = never e
 
-rule_from : (k : ℕ) (r : Reading) (s : List ℕ) (stop at previous start : ℕ) (b : Body) → Octets s → previous ≤ 13 → walk_from_lem k r s stop at previous start ≡ accepts b
+rule_from : (k : ℕ) (r : Reading) (s : List ℕ) (stop at previous start : ℕ) (b : Body) → Octets s → previous ≤ 13 → walk_from k r s stop at previous start ≡ accepts b
     → Rule previous b.pieces
-unfolding walk_from_lem
+unfolding walk_from
 rule_from zero r s stop at previous start b o h e = never e
 rule_from (suc k) r s stop at previous start b o h e =
     ⊎_elim
     (λ l.
-    by_found r s at previous start b o (walk_from_lem k r s stop) (λ a t i d m w. rule_from k r s stop a t i d o m w) (component_at r s at previous start) refl
+    by_found r s at previous start b o (walk_from k r s stop) (λ a t i d m w. rule_from k r s stop a t i d o m w) (component_at r s at previous start) refl
     (rw (lt-leb stop at l) at e))
     (λ l. subst (Rule previous) (pieces_in_lem (rw (le-leb stop at l) at e)) (rule_none previous h))
     (lt_or_le at stop)

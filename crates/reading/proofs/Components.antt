@@ -23,15 +23,15 @@ use Rattle.lists.proofs.Records.{recorded_length}
 use Rattle.lists.proofs.Laws.{recorded_counts, with_tally}
 use Rattle.walk.specs.Walks.{FoundAt, found_at, prefix_found, list_found}
 use Rattle.walk.proofs.Ways.{typed_prefix, typed_list}
-use Rattle.reading.specs.Parts.{is_found, found_in, typed_here, Standing, found_here_lem}
+use Rattle.reading.specs.Parts.{is_found, found_in, typed_here, Standing, found_here}
 
 -- what `put_part` answers and leaves
 abbrev pub Post : Reading → List ℕ → ℕ → ℕ → ℕ → (ws vs os : List ℕ) → ℕ → (ws' vs' os' : List ℕ) → ℕ → ℕ → Type 0
 Post r s at first start ws vs os word ws' vs' os' at' n' =
-    (ws' ≡ sets ws word (piece_words (found_here_lem r s at start).piece))
-    × ((vs' ≡ sets vs (first + start) (map number_of (found_here_lem r s at start).operators))
-    × ((os' ≡ sets os (first + start) (map octet_of (found_here_lem r s at start).operators))
-    × ((at' ≡ (found_here_lem r s at start).next) × (n' ≡ length (found_here_lem r s at start).operators))))
+    (ws' ≡ sets ws word (piece_words (found_here r s at start).piece))
+    × ((vs' ≡ sets vs (first + start) (map number_of (found_here r s at start).operators))
+    × ((os' ≡ sets os (first + start) (map octet_of (found_here r s at start).operators))
+    × ((at' ≡ (found_here r s at start).next) × (n' ≡ length (found_here r s at start).operators))))
 
 post_of : (r : Reading) (s : List ℕ) (at first start : ℕ) (p : FoundAt) → typed_here r s at start ≡ accepts p → (ws vs os : List ℕ) (word : ℕ) {ws' vs' os' : List ℕ} {at' n' : ℕ}
     → ws' ≡ sets ws word (piece_words p.piece) → vs' ≡ sets vs (first + start) (map number_of p.operators) → os' ≡ sets os (first + start) (map octet_of p.operators)
@@ -82,12 +82,12 @@ module _ (r : Reading) (s : List ℕ) (at first start : ℕ) (h : Standing r s a
         → typed_here r s at start ≡ accepts (found_at (Operators t start l.count) (recorded_ops r t (ops_at s (at + 1))) l.next.at)
     here_found e = here_list ∙ ap (list_found t start (recorded_ops r t (ops_at s (at + 1)))) e
 
-    operators_count : length (found_here_lem r s at start).operators ≡ length (ops_at s (at + 1))
+    operators_count : length (found_here r s at start).operators ≡ length (ops_at s (at + 1))
     operators_count =
         with_tally (list_at r t s (at + 1)) list_whole
         (λ l e. ap (λ (a : Answer FoundAt). length (found_in a).operators) (here_found e) ∙ recorded_length r t (ops_at s (at + 1)))
 
-    pub list_room : {v w : ℕ} → Places (first + start) (length (found_here_lem r s at start).operators) v w → Places (first + start) (length (ops_at s (at + 1))) v w
+    pub list_room : {v w : ℕ} → Places (first + start) (length (found_here r s at start).operators) v w → Places (first + start) (length (ops_at s (at + 1))) v w
     list_room m = let e = operators_count in record { in_values = omega (arith, m.in_values); in_octets = omega (arith, m.in_octets) }
 
     pub list_post : (ws vs os : List ℕ) (word : ℕ) {ws' vs' os' : List ℕ} {l : Tally} → list_at r t s (at + 1) ≡ accepts l

@@ -18,9 +18,9 @@ use Rattle.choices.specs.declared.Reading.TheVariants.{Plain, Ipv4, Ipv6}
 use Rattle.choices.specs.Choices.{bound_of, front_of, family_of}
 use Rattle.rules.specs.declared.Distinguisher.{Distinguisher}
 use Rattle.rules.specs.declared.Distinguisher.TheVariants.{Absent, Is}
-use Rattle.walk.specs.Walks.{Body, body, walk_from_lem, walk_at}
+use Rattle.walk.specs.Walks.{Body, body, walk_from, walk_at}
 use Rattle.reading.specs.Readings.{ReadRule, read_rule, ruled, part, front_at, components_at, stated_at, after_length, too_long, read_at, roomed, read_into}
-use Rattle.reading.proofs.Laws.{Short, read_meets_lem, read_meets}
+use Rattle.reading.proofs.Laws.{Short, read_meets_lem}
 use Rattle.reading.proofs.Stated.{stated_short, stated_components, front_without}
 
 -- ---- "The plain reading knows none"
@@ -51,7 +51,7 @@ not_in_plain r rd {n} h e = let z : n < front_of Plain rd = subst (λ (x : Readi
 pub short_only : (r : Reading) (rd : Bool) (s : List ℕ) (w v o : ℕ) (f : Refused) → read_into r rd s w v o ≡ declines f → f.number ≡ 19
     → (rd ≡ true) × ((r ≡ Plain → ⊥) × Short r rd s f)
 short_only r rd s w v o f e n =
-    let h = (read_meets r rd s w v o e).short n in
+    let h = (read_meets_lem r rd s w v o e).short n in
     (expected_by r rd h.few, (not_in_plain r rd h.few, h))
 
 -- and there always
@@ -95,7 +95,7 @@ module _ (r : Reading) (front : front_of r true ≡ 8) (none : front_of r false 
       ∙ ap (λ (x : ℕ). ruled (family_of r) Absent (start + size) (answer_by (start + 8) (walk_at r (part s (start + 8) (bound_of r (length s) (start + size))) x))) g))
 
 empty_body : (r : Reading) → front_of r false ≡ 0 → (s : List ℕ) (start : ℕ) → start ≤ length s → stated_at r false s start 0 ≡ accepts (read_rule (body [] []) (family_of r) Absent start)
-unfolding front_at walk_at walk_from_lem
+unfolding front_at walk_at walk_from
 empty_body r none s start h =
     let e : start + 0 ≡ start = omega arith in
     stated_components r false s start 0 (omega arith) (omega arith) ∙ ap (λ (x : ℕ). components_at r x s start 0) none

@@ -26,23 +26,23 @@ use Rattle.operators.specs.Ops.{Op}
 use Rattle.lists.specs.declared.Tally.{Tally}
 use Rattle.lists.specs.Lists.{tally, plus, after_op, lacks_octet, value_at, operator_at, turn, list_from, list_at, ops_at, recorded_ops}
 use Rattle.prefixes.specs.Prefixes.{prefix_at}
-use Rattle.walk.specs.Walks.{FoundAt, prefix_found, list_found, typed_at, component_at, Body, body, joined, turn as turnWalk, walk_from_lem, walk_at}
+use Rattle.walk.specs.Walks.{FoundAt, prefix_found, list_found, typed_at, component_at, Body, body, joined, turn as turnWalk, walk_from, walk_at}
 use Rattle.reading.specs.Readings.{ReadRule, ruled, part, front_at, stated_at, after_length, too_long, read_at, roomed, read_into, standard_into}
-use Rattle.reading.proofs.Laws.{read_meets_lem, read_meets}
+use Rattle.reading.proofs.Laws.{read_meets, read_meets_lem}
 use Rattle.walk.proofs.Refusals.{Widened}
 
 -- ---- which reading gives 6, and where
 
 -- "InvalidValueLength (standard only)"
-no_six : (rd : Bool) → read_meets_lem Plain rd 6 ≡ true → ⊥
+no_six : (rd : Bool) → read_meets Plain rd 6 ≡ true → ⊥
 no_six rd e = let z : ◌≡◌ {A = ℕ} 0 1 = cc in omega arith
 
 pub plain_never_six : (rd : Bool) (s : List ℕ) (w v o : ℕ) (f : Refused) → read_into Plain rd s w v o ≡ declines f → f.number ≡ 6 → ⊥
-plain_never_six rd s w v o f e n = no_six rd (rw n at (read_meets Plain rd s w v o e).number)
+plain_never_six rd s w v o f e n = no_six rd (rw n at (read_meets_lem Plain rd s w v o e).number)
 
 -- a reading gives 6 at an operator octet in a list of the types 9, 11 and 12 alone, and carries that octet's code
 pub six_by_type : (r : Reading) (rd : Bool) (s : List ℕ) (w v o : ℕ) (f : Refused) → read_into r rd s w v o ≡ declines f → f.number ≡ 6 → Widened r s f
-six_by_type r rd s w v o f e n = (read_meets r rd s w v o e).six n
+six_by_type r rd s w v o f e n = (read_meets_lem r rd s w v o e).six n
 
 pub standard_six_by_type : (family : ℕ) (rd : Bool) (s : List ℕ) (w v o : ℕ) (f : Refused) → standard_into family rd s w v o ≡ declines f → f.number ≡ 6
     → ((r : Reading) → accepts r ≡ standard_of family → Widened r s f)
@@ -196,13 +196,13 @@ module _ (r : Reading) where
   own_found t start (accepts p) go on e = ap (joined p) (e p.next t (start + length p.operators))
   own_found t start (declines f) go on e = refl
 
-  own_walk : (k : ℕ) (s : List ℕ) (stop at previous start : ℕ) → walk_from_by (codes_in r) k r s stop at previous start ≡ walk_from_lem k r s stop at previous start
-  unfolding walk_from_by walk_from_lem
+  own_walk : (k : ℕ) (s : List ℕ) (stop at previous start : ℕ) → walk_from_by (codes_in r) k r s stop at previous start ≡ walk_from k r s stop at previous start
+  unfolding walk_from_by walk_from
   own_walk zero s stop at previous start = refl
   own_walk (suc k) s stop at previous start =
       ap (λ (a : Answer FoundAt). pick (leb stop at) (accepts (body [] [])) (turnWalk (get_or s at 0) start a (walk_from_by (codes_in r) k r s stop))) (own_component s at previous start)
       ∙ ap (pick (leb stop at) (accepts (body [] [])))
-      (own_found (get_or s at 0) start (component_at r s at previous start) (walk_from_by (codes_in r) k r s stop) (walk_from_lem k r s stop) (own_walk k s stop))
+      (own_found (get_or s at 0) start (component_at r s at previous start) (walk_from_by (codes_in r) k r s stop) (walk_from k r s stop) (own_walk k s stop))
 
   own_after : (rd : Bool) (s : List ℕ) (a : Answer Length) → after_length_by (codes_in r) r rd s a ≡ after_length r rd s a
   unfolding stated_at walk_at

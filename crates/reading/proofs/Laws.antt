@@ -25,10 +25,10 @@ use Rattle.reading.specs.Readings.{ReadRule, read_rule, ruled, part, front_at, s
 use Rattle.reading.proofs.Walked.{read_walked}
 
 -- the numbers that a reading may refuse with: the walk's, 8 in the plain reading, 9, and in the standard ones 19 where a distinguisher is expected
-abbrev pub read_meets_lem : Reading → Bool → ℕ → Bool
-read_meets_lem Plain rd n = walk_meets Plain n || (eqb n 8 || eqb n 9)
-read_meets_lem Ipv4 rd n = walk_meets Ipv4 n || (eqb n 9 || rd && eqb n 19)
-read_meets_lem Ipv6 rd n = walk_meets Ipv6 n || (eqb n 9 || rd && eqb n 19)
+abbrev pub read_meets : Reading → Bool → ℕ → Bool
+read_meets Plain rd n = walk_meets Plain n || (eqb n 8 || eqb n 9)
+read_meets Ipv4 rd n = walk_meets Ipv4 n || (eqb n 9 || rd && eqb n 19)
+read_meets Ipv6 rd n = walk_meets Ipv6 n || (eqb n 9 || rd && eqb n 19)
 
 -- 19: the stated length fits, and the body has fewer octets than a distinguisher, at the stated end
 pub record Short (r : Reading) (rd : Bool) (s : List ℕ) (f : Refused) : Type 0 where
@@ -40,29 +40,29 @@ pub record Short (r : Reading) (rd : Bool) (s : List ℕ) (f : Refused) : Type 0
 
 -- a refusal of the input by one of them; where it is 6 or 19, by the input's octets
 pub record ReadMeets (r : Reading) (rd : Bool) (s : List ℕ) (f : Refused) : Type 0 where
-  pub number : read_meets_lem r rd f.number ≡ true
+  pub number : read_meets r rd f.number ≡ true
   pub six : f.number ≡ 6 → Widened r s f
   pub short : f.number ≡ 19 → Short r rd s f
 
 or_left : (a b : Bool) → a ≡ true → (a || b) ≡ true
 or_left a b e = rw e
 
-walk_read : (r : Reading) (rd : Bool) (n : ℕ) → walk_meets r n ≡ true → read_meets_lem r rd n ≡ true
+walk_read : (r : Reading) (rd : Bool) (n : ℕ) → walk_meets r n ≡ true → read_meets r rd n ≡ true
 walk_read Plain rd n e = or_left (walk_meets Plain n) _ e
 walk_read Ipv4 rd n e = or_left (walk_meets Ipv4 n) _ e
 walk_read Ipv6 rd n e = or_left (walk_meets Ipv6 n) _ e
 
-nine : (r : Reading) (rd : Bool) → read_meets_lem r rd 9 ≡ true
+nine : (r : Reading) (rd : Bool) → read_meets r rd 9 ≡ true
 nine Plain rd = refl
 nine Ipv4 rd = refl
 nine Ipv6 rd = refl
 
-eight : (r : Reading) (rd : Bool) (n : ℕ) → too_long r n ≡ true → read_meets_lem r rd 8 ≡ true
+eight : (r : Reading) (rd : Bool) (n : ℕ) → too_long r n ≡ true → read_meets r rd 8 ≡ true
 eight Plain rd n e = refl
 eight Ipv4 rd n e = let z : ◌≡◌ {A = ℕ} 0 1 = cc in absurd (omega arith)
 eight Ipv6 rd n e = let z : ◌≡◌ {A = ℕ} 0 1 = cc in absurd (omega arith)
 
-nineteen : (r : Reading) (rd : Bool) {n : ℕ} → n < front_of r rd → read_meets_lem r rd 19 ≡ true
+nineteen : (r : Reading) (rd : Bool) {n : ℕ} → n < front_of r rd → read_meets r rd 19 ≡ true
 nineteen Plain rd h = absurd (omega arith)
 nineteen Ipv4 true h = refl
 nineteen Ipv4 false h = absurd (omega arith)
@@ -97,13 +97,13 @@ widened_moved r s from to w =
 
 module _ (r : Reading) (rd : Bool) (s : List ℕ) where
   -- a refusal by another number than 6 and 19
-  plainly : (f : Refused) → read_meets_lem r rd f.number ≡ true → (f.number ≡ 6 → ⊥) → (f.number ≡ 19 → ⊥) → ReadMeets r rd s f
+  plainly : (f : Refused) → read_meets r rd f.number ≡ true → (f.number ≡ 6 → ⊥) → (f.number ≡ 19 → ⊥) → ReadMeets r rd s f
   plainly f e h k = record { number = e; six = λ n. absurd (h n); short = λ n. absurd (k n) }
 
   one : (f : Refused) → f.number ≡ 1 → ReadMeets r rd s f
   one f e = plainly f (rw e (by_reading_lem r)) (λ n. omega arith) (λ n. omega arith)
     where
-      by_reading_lem : (r : Reading) → read_meets_lem r rd 1 ≡ true
+      by_reading_lem : (r : Reading) → read_meets r rd 1 ≡ true
       by_reading_lem Plain = refl
       by_reading_lem Ipv4 = refl
       by_reading_lem Ipv6 = refl
@@ -167,11 +167,11 @@ module _ (r : Reading) (rd : Bool) (s : List ℕ) where
   unfolding read_into
   met_read w v o = met_roomed (read_at r rd s) w v o met_at
 
-  pub read_meets : (w v o : ℕ) {f : Refused} → read_into r rd s w v o ≡ declines f → ReadMeets r rd s f
-  read_meets w v o e = subst (Met (ReadMeets r rd s)) e (met_read w v o)
+  pub read_meets_lem : (w v o : ℕ) {f : Refused} → read_into r rd s w v o ≡ declines f → ReadMeets r rd s f
+  read_meets_lem w v o e = subst (Met (ReadMeets r rd s)) e (met_read w v o)
 
 -- "InvalidOperator (plain only)"
-no_five : (r : Reading) (rd : Bool) → (r ≡ Plain → ⊥) → read_meets_lem r rd 5 ≡ true → ⊥
+no_five : (r : Reading) (rd : Bool) → (r ≡ Plain → ⊥) → read_meets r rd 5 ≡ true → ⊥
 no_five Plain rd h e = h refl
 no_five Ipv4 true h e = let z : ◌≡◌ {A = ℕ} 0 1 = cc in omega arith
 no_five Ipv4 false h e = let z : ◌≡◌ {A = ℕ} 0 1 = cc in omega arith
@@ -179,7 +179,7 @@ no_five Ipv6 true h e = let z : ◌≡◌ {A = ℕ} 0 1 = cc in omega arith
 no_five Ipv6 false h e = let z : ◌≡◌ {A = ℕ} 0 1 = cc in omega arith
 
 pub plain_only : (r : Reading) → (r ≡ Plain → ⊥) → (rd : Bool) (s : List ℕ) (w v o : ℕ) (f : Refused) → read_into r rd s w v o ≡ declines f → f.number ≡ 5 → ⊥
-plain_only r h rd s w v o f e n = no_five r rd h (rw n at (read_meets r rd s w v o e).number)
+plain_only r h rd s w v o f e n = no_five r rd h (rw n at (read_meets_lem r rd s w v o e).number)
 
 -- the body of an accepted standard reading: the stated octets, of which a distinguisher and the components leave none over
 pub record Exact (r : Reading) (rd : Bool) (s : List ℕ) (rule : ReadRule) : Type 0 where

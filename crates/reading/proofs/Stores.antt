@@ -19,7 +19,7 @@ use Rattle.walk.specs.Walks.{FoundAt, component_at, Body, body, joined, walk_at}
 use Rattle.walk.proofs.Components.{Here, here}
 use Rattle.walk.specs.Turns.{rest}
 use Rattle.walk.proofs.Turns.{rest_first, rest_end, rest_refused, rest_part}
-use Rattle.reading.specs.Parts.{is_found, found_in, is_body_lem, body_in, typed_here, Standing, found_here_lem, body_at}
+use Rattle.reading.specs.Parts.{is_found, found_in, is_body, body_in, typed_here, Standing, found_here, body_at}
 use Rattle.reading.proofs.Components.{false_true}
 
 map_append : (f : Op → ℕ) (a b : List Op) → map f (a ++ b) ≡ map f a ++ map f b
@@ -31,8 +31,8 @@ abbrev left : Reading → List ℕ → ℕ → ℕ → ℕ → ℕ → ℕ → B
 left r s stop at previous start j = body_in (rest r s stop at previous start j)
 
 -- of a body that was accepted, the rest is
-joined_body : (p : FoundAt) (a : Answer Body) → is_body_lem (joined p a) ≡ true
-    → (is_body_lem a ≡ true) × (body_in (joined p a) ≡ body (p.piece ∷ (body_in a).pieces) (p.operators ++ (body_in a).operators))
+joined_body : (p : FoundAt) (a : Answer Body) → is_body (joined p a) ≡ true
+    → (is_body a ≡ true) × (body_in (joined p a) ≡ body (p.piece ∷ (body_in a).pieces) (p.operators ++ (body_in a).operators))
 joined_body p (accepts b) e = (refl, refl)
 joined_body p (declines f) e = false_true e
 
@@ -41,7 +41,7 @@ pub record Stored (r : Reading) (s : List ℕ) (stop first : ℕ) (ws₀ vs₀ o
   pub few : j ≤ previous
   pub known : previous ≤ 13
   pub place : start ≤ at
-  pub accepted : is_body_lem (rest r s stop at previous start j) ≡ true
+  pub accepted : is_body (rest r s stop at previous start j) ≡ true
   pub total : j + length (left r s stop at previous start j).pieces ≡ length (body_at r s stop).pieces
   pub words : sets ws₀ 0 (all_words (body_at r s stop).pieces) ≡ sets ws (4 * j) (all_words (left r s stop at previous start j).pieces)
   pub values : sets vs₀ first (map number_of (body_at r s stop).operators) ≡ sets vs (first + start) (map number_of (left r s stop at previous start j).operators)
@@ -53,7 +53,7 @@ pub record Stored (r : Reading) (s : List ℕ) (stop first : ℕ) (ws₀ vs₀ o
   pub long_values : length vs ≡ length vs₀
   pub long_octets : length os ≡ length os₀
 
-pub stored_first : (r : Reading) (s : List ℕ) (stop first : ℕ) (ws vs os : List ℕ) → is_body_lem (walk_at r s stop) ≡ true → 64 ≤ length ws
+pub stored_first : (r : Reading) (s : List ℕ) (stop first : ℕ) (ws vs os : List ℕ) → is_body (walk_at r s stop) ≡ true → 64 ≤ length ws
     → Places first (length (body_at r s stop).operators) (length vs) (length os) → Stored r s stop first ws vs os ws vs os 0 0 0
 stored_first r s stop first ws vs os ok w m =
     let z : first ≡ first + 0 = omega arith in
@@ -66,7 +66,7 @@ stored_first r s stop first ws vs os ok w m =
       few = omega arith;
       known = omega arith;
       place = omega arith;
-      accepted = sym (ap is_body_lem e) ∙ ok;
+      accepted = sym (ap is_body e) ∙ ok;
       total = omega arith;
       words = ap (λ (x : Body). sets ws 0 (all_words x.pieces)) b;
       values = ap₂ (λ (i : ℕ) (x : Body). sets vs i (map number_of x.operators)) z b;
@@ -103,7 +103,7 @@ module _ {r : Reading} {s : List ℕ} {stop first : ℕ} {ws₀ vs₀ os₀ ws v
   module _ (k : at < stop) where
     by_answer : (a : Answer FoundAt) → component_at r s at h.previous start ≡ a → a ≡ accepts (found_in a)
     by_answer (accepts p) e = refl
-    by_answer (declines f) e = false_true (ap is_body_lem (sym (rest_refused r s stop at h.previous start j few_of k e)) ∙ h.accepted)
+    by_answer (declines f) e = false_true (ap is_body (sym (rest_refused r s stop at h.previous start j few_of k e)) ∙ h.accepted)
 
     some : component_at r s at h.previous start ≡ accepts (found_in (component_at r s at h.previous start))
     some = by_answer (component_at r s at h.previous start) refl
@@ -112,33 +112,33 @@ module _ {r : Reading} {s : List ℕ} {stop first : ℕ} {ws₀ vs₀ os₀ ws v
     unfolding typed_here
     typed = (here r s at h.previous start some).typed
 
-    found : component_at r s at h.previous start ≡ accepts (found_here_lem r s at start)
+    found : component_at r s at h.previous start ≡ accepts (found_here r s at start)
     found = some ∙ ap accepts (sym (ap found_in typed))
 
-    spot : Here r s at h.previous start (found_here_lem r s at start)
+    spot : Here r s at h.previous start (found_here r s at start)
     spot = here r s at h.previous start found
 
     pub standing : Standing r s at start
     standing = record { within = spot.within; first = omega (arith, spot.rises); most = spot.most; accepted = ap is_found typed }
 
-    pub bounds : (at + length (found_here_lem r s at start).operators < (found_here_lem r s at start).next) × ((found_here_lem r s at start).next ≤ length s)
+    pub bounds : (at + length (found_here r s at start).operators < (found_here r s at start).next) × ((found_here r s at start).next ≤ length s)
     bounds = (spot.past, spot.inside)
 
     -- the walk from the next place on
     abbrev onward : Answer Body
-    onward = rest r s stop (found_here_lem r s at start).next (get_or s at 0) (start + length (found_here_lem r s at start).operators) (j + 1)
+    onward = rest r s stop (found_here r s at start).next (get_or s at 0) (start + length (found_here r s at start).operators) (j + 1)
 
-    onward_body : (is_body_lem onward ≡ true)
-        × (left r s stop at h.previous start j ≡ body ((found_here_lem r s at start).piece ∷ (body_in onward).pieces) ((found_here_lem r s at start).operators ++ (body_in onward).operators))
+    onward_body : (is_body onward ≡ true)
+        × (left r s stop at h.previous start j ≡ body ((found_here r s at start).piece ∷ (body_in onward).pieces) ((found_here r s at start).operators ++ (body_in onward).operators))
     onward_body =
         let e = rest_part r s stop at h.previous start j few_of k found in
-        let q = joined_body (found_here_lem r s at start) onward (sym (ap is_body_lem e) ∙ h.accepted) in
+        let q = joined_body (found_here r s at start) onward (sym (ap is_body e) ∙ h.accepted) in
         (q.0, ap body_in e ∙ q.1)
 
-    counted : length (left r s stop at h.previous start j).operators ≡ length (found_here_lem r s at start).operators + length (body_in onward).operators
-    counted = ap (λ (x : Body). length x.operators) onward_body.1 ∙ length-append (found_here_lem r s at start).operators (body_in onward).operators
+    counted : length (left r s stop at h.previous start j).operators ≡ length (found_here r s at start).operators + length (body_in onward).operators
+    counted = ap (λ (x : Body). length x.operators) onward_body.1 ∙ length-append (found_here r s at start).operators (body_in onward).operators
 
-    pub asked : (4 * j + 4 ≤ length ws) × Places (first + start) (length (found_here_lem r s at start).operators) (length vs) (length os)
+    pub asked : (4 * j + 4 ≤ length ws) × Places (first + start) (length (found_here r s at start).operators) (length vs) (length os)
     asked =
         let c = counted in
         let l = spot.most in
@@ -146,35 +146,35 @@ module _ {r : Reading} {s : List ℕ} {stop first : ℕ} {ws₀ vs₀ os₀ ws v
         (omega (arith, h.few, h.in_words), record { in_values = omega (arith, h.in_values); in_octets = omega (arith, h.in_octets) })
 
     stored : (g : Op → ℕ) (l : List ℕ) {l₀ l' : List ℕ} → l₀ ≡ sets l (first + start) (map g (left r s stop at h.previous start j).operators)
-        → l' ≡ sets l (first + start) (map g (found_here_lem r s at start).operators) → l₀ ≡ sets l' (first + (start + length (found_here_lem r s at start).operators)) (map g (body_in onward).operators)
+        → l' ≡ sets l (first + start) (map g (found_here r s at start).operators) → l₀ ≡ sets l' (first + (start + length (found_here r s at start).operators)) (map g (body_in onward).operators)
     stored g l p q =
-        let n : length (map g (found_here_lem r s at start).operators) ≡ length (found_here_lem r s at start).operators = simp length-map in
-        let i : first + start + length (map g (found_here_lem r s at start).operators) ≡ first + (start + length (found_here_lem r s at start).operators) = omega (arith, n) in
+        let n : length (map g (found_here r s at start).operators) ≡ length (found_here r s at start).operators = simp length-map in
+        let i : first + start + length (map g (found_here r s at start).operators) ≡ first + (start + length (found_here r s at start).operators) = omega (arith, n) in
         p ∙ ap (λ (x : Body). sets l (first + start) (map g x.operators)) onward_body.1
-        ∙ ap (sets l (first + start)) (map_append g (found_here_lem r s at start).operators (body_in onward).operators)
-        ∙ sets_append l (first + start) (map g (found_here_lem r s at start).operators) (map g (body_in onward).operators)
+        ∙ ap (sets l (first + start)) (map_append g (found_here r s at start).operators (body_in onward).operators)
+        ∙ sets_append l (first + start) (map g (found_here r s at start).operators) (map g (body_in onward).operators)
         ∙ ap₂ (λ (x : List ℕ) (y : ℕ). sets x y (map g (body_in onward).operators)) (sym q) i
 
-    worded : {ws' : List ℕ} → ws' ≡ sets ws (4 * j) (piece_words (found_here_lem r s at start).piece)
+    worded : {ws' : List ℕ} → ws' ≡ sets ws (4 * j) (piece_words (found_here r s at start).piece)
         → sets ws₀ 0 (all_words (body_at r s stop).pieces) ≡ sets ws' (4 * (j + 1)) (all_words (body_in onward).pieces)
     unfolding all_words
     worded is =
         let i : 4 * j + 4 ≡ 4 * (j + 1) = omega arith in
         h.words ∙ ap (λ (x : Body). sets ws (4 * j) (all_words x.pieces)) onward_body.1
-        ∙ sets_append ws (4 * j) (piece_words (found_here_lem r s at start).piece) (all_words (body_in onward).pieces)
+        ∙ sets_append ws (4 * j) (piece_words (found_here r s at start).piece) (all_words (body_in onward).pieces)
         ∙ ap₂ (λ (x : List ℕ) (y : ℕ). sets x y (all_words (body_in onward).pieces)) (sym is) i
 
-    pub stored_more : {at' n' : ℕ} (ws' vs' os' : List ℕ) → at' ≡ (found_here_lem r s at start).next → n' ≡ length (found_here_lem r s at start).operators
-        → ws' ≡ sets ws (4 * j) (piece_words (found_here_lem r s at start).piece)
-        → vs' ≡ sets vs (first + start) (map number_of (found_here_lem r s at start).operators) → os' ≡ sets os (first + start) (map octet_of (found_here_lem r s at start).operators)
+    pub stored_more : {at' n' : ℕ} (ws' vs' os' : List ℕ) → at' ≡ (found_here r s at start).next → n' ≡ length (found_here r s at start).operators
+        → ws' ≡ sets ws (4 * j) (piece_words (found_here r s at start).piece)
+        → vs' ≡ sets vs (first + start) (map number_of (found_here r s at start).operators) → os' ≡ sets os (first + start) (map octet_of (found_here r s at start).operators)
         → Stored r s stop first ws₀ vs₀ os₀ ws' vs' os' at' (start + n') (j + 1)
     stored_more ws' vs' os' is_at is-n is-ws is-vs is-os =
         let b = bounds in
         let c = counted in
         let m = ap (λ (x : Body). length x.pieces) onward_body.1 in
-        let lw : length ws' ≡ length ws = ap length is-ws ∙ length-sets ws (4 * j) (piece_words (found_here_lem r s at start).piece) in
-        let lv : length vs' ≡ length vs = ap length is-vs ∙ length-sets vs (first + start) (map number_of (found_here_lem r s at start).operators) in
-        let lo : length os' ≡ length os = ap length is-os ∙ length-sets os (first + start) (map octet_of (found_here_lem r s at start).operators) in
+        let lw : length ws' ≡ length ws = ap length is-ws ∙ length-sets ws (4 * j) (piece_words (found_here r s at start).piece) in
+        let lv : length vs' ≡ length vs = ap length is-vs ∙ length-sets vs (first + start) (map number_of (found_here r s at start).operators) in
+        let lo : length os' ≡ length os = ap length is-os ∙ length-sets os (first + start) (map octet_of (found_here r s at start).operators) in
         rw (is_at, is-n)
         (record {
           previous = get_or s at 0;

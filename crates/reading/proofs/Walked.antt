@@ -1,7 +1,7 @@
 -- What is behind a rule that was read: the length and the walk that gave it; and that it is a rule, whose words give it back.
 use Prim.Native.Nat.{ℕ, zero, suc, ◌+◌, ◌-◌, ◌≤◌, ◌<◌}
 use mathlib.Core.Path.{◌≡◌, refl, sym, ap, ap₂, ◌∙◌, subst}
-use mathlib.Core.Bool.{Bool, true, false}
+use mathlib.Core.Bool.{Bool, true}
 use mathlib.Core.List.{List, [], ◌∷◌}
 use native.Mathlib.Omega.{arith}
 use borrow.Author.Tests.{ltb-false, leb-false}
@@ -19,7 +19,7 @@ use Rattle.choices.specs.Choices.{bound_of, front_of, family_of}
 use Rattle.prefixes.proofs.Accepted.{Octets}
 use Rattle.walk.specs.Walks.{Body, walk_at}
 use Rattle.reading.specs.Readings.{ReadRule, read_rule, ruled, part, front_at, stated_at, after_length, too_long, read_at, shorter, roomed, read_into}
-use Rattle.reading.specs.Parts.{is_body_lem, body_in, body_at, is_read, rule_in, read_of, body_start}
+use Rattle.reading.specs.Parts.{is_body, body_in, body_at, is_read, rule_in, read_of, body_start}
 use Rattle.reading.proofs.Ways.{after_of, bound_in}
 use Rattle.reading.proofs.Bodies.{Rule, body_rule}
 
@@ -117,7 +117,7 @@ pub record Tested (r : Reading) (rd : Bool) (s : List ℕ) (used : ℕ) : Type 0
   pub front : body_start (get_or s 0 0) + front_of r rd ≤ length s
   pub start : body_start (get_or s 0 0) + front_of r rd ≤ used
   pub within : (body_start (get_or s 0 0) + front_of r rd ≤ bound_of r (length s) used) × (bound_of r (length s) used ≤ length s)
-  pub walked : is_body_lem (walk_at r (part s (body_start (get_or s 0 0) + front_of r rd) (bound_of r (length s) used)) (used - (body_start (get_or s 0 0) + front_of r rd))) ≡ true
+  pub walked : is_body (walk_at r (part s (body_start (get_or s 0 0) + front_of r rd) (bound_of r (length s) used)) (used - (body_start (get_or s 0 0) + front_of r rd))) ≡ true
   pub is : read_of r rd s
       ≡ read_rule (body_at r (part s (body_start (get_or s 0 0) + front_of r rd) (bound_of r (length s) used)) (used - (body_start (get_or s 0 0) + front_of r rd))) (family_of r)
       (front_at (front_of r rd) s (body_start (get_or s 0 0))) used
@@ -147,7 +147,7 @@ tested_read r rd s {used} h u =
       front = omega arith;
       start = omega arith;
       within = bound_in r (length s) (a + m) used (omega arith) (omega arith);
-      walked = ap is_body_lem q;
+      walked = ap is_body q;
       is = sym w.is ∙ ap₂ (λ (x y : ℕ). read_rule w.given (family_of r) (front_at m s x) y) e f
           ∙ ap (λ (x : Answer Body). read_rule (body_in x) (family_of r) (front_at m s a) used) (sym q);
     }

@@ -18,9 +18,9 @@ abbrev pub found_in : Answer FoundAt → FoundAt
 found_in (accepts p) = p
 found_in (declines f) = found_at NoRecord [] 0
 
-abbrev pub is_body_lem : Answer Body → Bool
-is_body_lem (accepts b) = true
-is_body_lem (declines f) = false
+abbrev pub is_body : Answer Body → Bool
+is_body (accepts b) = true
+is_body (declines f) = false
 
 abbrev pub body_in : Answer Body → Body
 body_in (accepts b) = b
@@ -37,8 +37,8 @@ pub record Standing (reading : Reading) (s : List ℕ) (at start : ℕ) : Type 0
   pub most : get_or s at 0 ≤ 13
   pub accepted : is_found (typed_here reading s at start) ≡ true
 
-abbrev pub found_here_lem : Reading → List ℕ → ℕ → ℕ → FoundAt
-found_here_lem reading s at start = found_in (typed_here reading s at start)
+abbrev pub found_here : Reading → List ℕ → ℕ → ℕ → FoundAt
+found_here reading s at start = found_in (typed_here reading s at start)
 
 -- what the walk over a body gave
 abbrev pub body_at : Reading → List ℕ → ℕ → Body

@@ -1,6 +1,8 @@
 // The readings: octets in, the rule as 64 words and its operators in lent lists out. The first walk writes nothing and answers everything;
 // then room is looked for; then the second walk stores what the first accepted and tests nothing again. In the Rust it is nlri.rs,
 // parse_flowspec_nlri; the standard readings are added.
+#![tactic(auto)]
+
 ghost use Rattle.std.specs.Prelude.{◌≡◌, true, map, ◌+◌, ◌≤◌, length};
 ghost use Rattle.std.proofs.lemmas.List.Edits.{sets};
 ghost use Rattle.operators.specs.Ops.{octet_of, number_of};
@@ -11,7 +13,7 @@ ghost use Rattle.stored.specs.Stored.{head, rule_words};
 ghost use Rattle.walk.specs.Walks.{walk_at};
 ghost use Rattle.reading.specs.Readings.{too_long, stated_at, read_at, read_into, standard_into, front_at, told_into, taken_of, words_of, operators_of};
 ghost use Rattle.choices.specs.Choices.{expects, front_of, family_of};
-ghost use Rattle.reading.specs.Parts.{is_body_lem, Standing, found_here_lem, body_at, is_read, read_of, lacking_of};
+ghost use Rattle.reading.specs.Parts.{is_body, Standing, found_here, body_at, is_read, read_of, lacking_of};
 
 use choices::{Reading, Standard};
 use lists::Tally;
@@ -22,7 +24,7 @@ use stored::Piece;
 use walk::Walked;
 
 // How many octets were used, length octets included, and how many operators there are.
-#[derive(Drop)]
+#[derive(Clone, Copy)]
 pub enum ReadInto {
     Read { used: usize, operators: usize },
     Refused(Fault),
@@ -54,12 +56,12 @@ fn put_part(
 ) -> Tally
     requires standing { Standing reading s.now at start }
     requires word_in_bounds { word + 4 ≤ length words.old }
-    requires places { Places (first + start) (length (found_here_lem reading s.now at start).operators) (length values.old) (length octets.old) }
-    ensures words { words.new ≡ sets words.old word (piece_words (found_here_lem reading s.now at start).piece) }
-    ensures values { values.new ≡ sets values.old (first + start) (map number_of (found_here_lem reading s.now at start).operators) }
-    ensures octets { octets.new ≡ sets octets.old (first + start) (map octet_of (found_here_lem reading s.now at start).operators) }
-    ensures end { result.next.at ≡ (found_here_lem reading s.now at start).next }
-    ensures count { result.count ≡ length (found_here_lem reading s.now at start).operators }
+    requires places { Places (first + start) (length (found_here reading s.now at start).operators) (length values.old) (length octets.old) }
+    ensures words { words.new ≡ sets words.old word (piece_words (found_here reading s.now at start).piece) }
+    ensures values { values.new ≡ sets values.old (first + start) (map number_of (found_here reading s.now at start).operators) }
+    ensures octets { octets.new ≡ sets octets.old (first + start) (map octet_of (found_here reading s.now at start).operators) }
+    ensures end { result.next.at ≡ (found_here reading s.now at start).next }
+    ensures count { result.count ≡ length (found_here reading s.now at start).operators }
 {
     let tag = s[at];
     let from = at + 1;
@@ -103,7 +105,7 @@ fn put_all(
     octets: &mut [u8],
     first: usize,
 )
-    requires stop_value { is_body_lem (walk_at reading s.now stop) ≡ true }
+    requires stop_value { is_body (walk_at reading s.now stop) ≡ true }
     requires in_bounds { 64 ≤ length words.old }
     requires places { Places first (length (body_at reading s.now stop).operators) (length values.old) (length octets.old) }
     ensures words { words.new ≡ sets words.old 0 (rule_words (body_at reading s.now stop).pieces (head (family_of reading) first Distinguisher.Absent)) }

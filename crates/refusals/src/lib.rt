@@ -1,10 +1,12 @@
 // What a call refuses with. The names are the Rust's where it has one; the others, from the seventh on, are the documents'.
+#![tactic(auto)]
+
 ghost use Rattle.std.specs.Prelude.{◌≡◌};
 ghost use Rattle.ground.specs.Answers.{moved_by};
 ghost use Rattle.refusals.specs.Refusals.{outer_number, outer_carried, number_of, carried_of, numbers_of, told, Movable};
 
 // Refusals of what is built around rules: attributes, headers, distinguishers, tables, texts, actions, logs.
-#[derive(Drop)]
+#[derive(Clone, Copy)]
 pub enum OuterError {
     BadAttribute,
     ShortPacket,
@@ -21,7 +23,7 @@ pub enum OuterError {
     PastEnd,
 }
 
-#[derive(Drop)]
+#[derive(Clone, Copy)]
 pub enum FlowSpecError {
     InsufficientData,
     InvalidComponentOrder {
@@ -44,14 +46,14 @@ pub enum FlowSpecError {
 }
 
 // Where it broke: at an octet, whose place is counted from the start of the octets that were lent, or nowhere in them.
-#[derive(Drop)]
+#[derive(Clone, Copy)]
 pub enum Place {
     Nowhere,
     Octet(usize),
 }
 
 // A refusal on its way up. The place stands first: behind the error, a check compiles to half as much code again.
-#[derive(Drop)]
+#[derive(Clone, Copy)]
 pub struct Fault {
     pub place: Place,
     pub error: FlowSpecError,
@@ -79,7 +81,7 @@ impl Fault {
 }
 
 // A refusal as the documents number it: its number, how many numbers it carries, and those, 0 where there is none.
-#[derive(Drop)]
+#[derive(Clone, Copy)]
 pub struct Numbers {
     pub number: u8,
     pub count: u8,

@@ -9,7 +9,7 @@ use rules::{FlowSpecComponent, FlowSpecNlri, NetworkPrefix, Slot, Span};
 use stored::Piece;
 
 // A number that was read, and the place after it.
-#[derive(Drop)]
+#[derive(Clone, Copy)]
 pub struct Taken {
     pub value: u64,
     pub next: usize,
@@ -227,7 +227,7 @@ fn put_offset(out: &mut [u8], at: usize, wanted: bool, offset: u8) -> usize {
 }
 
 // What a prefix's text names; an IPv4 address is `high`.
-#[derive(Drop)]
+#[derive(Clone, Copy)]
 pub struct Named {
     pub digit: u8,
     pub has_offset: bool,

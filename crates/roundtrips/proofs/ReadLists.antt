@@ -1,5 +1,5 @@
 -- What a standard reading records of a list that it accepted, the standard writing takes, and writes in as many octets as were read.
-use Prim.Native.Nat.{ℕ, ◌+◌, ◌/◌, ◌%◌}
+use Prim.Native.Nat.{ℕ, ◌+◌, ◌/◌, ◌%◌, ◌<◌}
 use mathlib.Core.Path.{◌≡◌, sym, ◌∙◌, ap, ap₂, subst}
 use mathlib.Core.Bool.{Bool, true, not, ◌&&◌, false≢true}
 use mathlib.Core.List.{List, [], ◌∷◌, map}
@@ -31,13 +31,15 @@ op_fits r t s at h e =
     subst (λ (o : Op). fits_in o.octet o.value ≡ true) (sym w.is)
     (lt-ltb _ _ (value_lt s (at + 1) (width_of (get_or s at 0)) h (omega (arith, w.within))))
 
+-- one operator more before a list that ends: it has no end mark
+more_ends : (o : Op) (os : List Op) → fits_in o.octet o.value ≡ true → o.octet < 128 → ends os ≡ true → ends (o ∷ os) ≡ true
+more_ends o [] f b d = absurd (false≢true (sym ends_none ∙ d))
+more_ends o (p ∷ os) f b d = ends_more o p os ∙ ap₂ (λ (x y : Bool). x && y) f (ap₂ (λ (x y : Bool). not x && y) (lt-leb _ _ b) d)
+
 -- each value fits, and the last alone has the end mark
 chain_ends : {r : Reading} {t : ℕ} {s : List ℕ} {at to : ℕ} {os : List Op} → Octets s → Chain r t s at os to → ends os ≡ true
 chain_ends {r} {t} {s} h (last {at = at} {o = o} e b) = ends_last o ∙ ap₂ (λ (x y : Bool). x && y) (op_fits r t s at h e) (le-leb _ _ b)
-chain_ends {r} {t} {s} h (more {at = at} {o = o} e b (last {o = p} f c)) =
-    ends_more o p [] ∙ ap₂ (λ (x y : Bool). x && y) (op_fits r t s at h e) (ap₂ (λ (x y : Bool). not x && y) (lt-leb _ _ b) (chain_ends h (last f c)))
-chain_ends {r} {t} {s} h (more {at = at} {o = o} e b (more {o = p} {os = os} f c d)) =
-    ends_more o p os ∙ ap₂ (λ (x y : Bool). x && y) (op_fits r t s at h e) (ap₂ (λ (x y : Bool). not x && y) (lt-leb _ _ b) (chain_ends h (more f c d)))
+chain_ends {r} {t} {s} h (more {at = at} {o = o} {os = os} e b c) = more_ends o os (op_fits r t s at h e) b (chain_ends h c)
 
 -- and each width is one that the type takes
 op_narrow : (r : Reading) (t : ℕ) (s : List ℕ) (at : ℕ) {o : Op} → operator_at r t s at ≡ accepts o → ltb (code_in o.octet) (codes_in r t) ≡ true

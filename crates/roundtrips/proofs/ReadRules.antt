@@ -25,8 +25,8 @@ use Rattle.reading.proofs.Walked.{into_read, read_rule_lem, octets_part, family_
 use Rattle.reading.proofs.Laws.{to_the_last_octet}
 use Rattle.measuring.specs.Bodies.{ops_of, distinguisher_octets, body_octets, whole_octets}
 use Rattle.measuring.proofs.Laws.{Standard, Taken, standard_shows}
-use Rattle.writing.specs.Writings.{nlri_octets, written_from, written_in_lem}
-use Rattle.writing.proofs.Laws.{writes, written_in}
+use Rattle.writing.specs.Writings.{nlri_octets, written_from, written_in}
+use Rattle.writing.proofs.Laws.{writes, written_in_lem}
 use Rattle.roundtrips.specs.Trips.{Canonical, expected, Again}
 use Rattle.roundtrips.proofs.CanonicalForm.{named_on}
 use Rattle.roundtrips.proofs.Distinguishers.{Word, front_long, front_expected, front_word}
@@ -142,7 +142,7 @@ front l vs h = let z : 0 + length vs ≡ length vs = omega arith in sets-eq vs l
 
 module _ (family : ℕ) (rd : Bool) (s words values octets : List ℕ) (rule : ReadRule) (o : Octets s) (e : standard_into family rd s (length words) (length values) (length octets) ≡ accepts rule) where
   pub into_written : Again
-      (written_in_lem family (sets words 0 (rule_words rule.pieces (head rule.family 0 rule.distinguisher))) (sets values 0 (map number_of rule.operators)) (sets octets 0 (map octet_of rule.operators)))
+      (written_in family (sets words 0 (rule_words rule.pieces (head rule.family 0 rule.distinguisher))) (sets values 0 (map number_of rule.operators)) (sets octets 0 (map octet_of rule.operators)))
       (λ x. standard_into family rd x (length words) (length values) (length octets)) rule
   into_written =
       let i = read_named family rd s (length words) (length values) (length octets) rule e in
@@ -167,7 +167,7 @@ module _ (family : ℕ) (rd : Bool) (s words values octets : List ℕ) (rule : R
         out = a.out;
         no_longer = a.no_longer;
         written = λ room g.
-            written_in family (sets words 0 xs) (sets values 0 vs) (sets octets 0 os) w i.is room
+            written_in_lem family (sets words 0 xs) (sets values 0 vs) (sets octets 0 os) w i.is room
             ∙ ap₂ (λ (j l : List ℕ). written_from w j l (sets octets 0 os) room) (front words xs (omega arith)) (front values vs (omega arith))
             ∙ ap (λ (j : List ℕ). written_from w (xs ++ drop (length xs) words) (vs ++ drop (length vs) values) j room) (front octets os (omega arith))
             ∙ a.written room g;

@@ -1,5 +1,5 @@
 -- The four statements on whole rules, in one place. They are over the definitions that the contracts cite: `read_at`, `read_into` and
--- `standard_into` are what `read_into` and `read` of `reading` answer and leave behind, and `krubbadin_read`; `written_from` and `written_in_lem` are
+-- `standard_into` are what `read_into` and `read` of `reading` answer and leave behind, and `krubbadin_read`; `written_from` and `written_in` are
 -- so of `write_from` and `write` of `writing`, and `krubbadin_write`. A standard reading or writing is one that is not plain.
 --
 -- (a) Round trip. `written_read`: what the standard writing wrote of the rule in the lent words, the standard reading accepts, also with
@@ -38,8 +38,8 @@ use Rattle.reading.specs.Readings.{ReadRule, read_rule, read_at, standard_into, 
 use Rattle.reading.proofs.Laws.{Exact, to_the_last_octet}
 use Rattle.reading.proofs.Once.{into_once}
 use Rattle.writing.specs.declared.Written.{Written}
-use Rattle.writing.specs.Writings.{written_from, written_in_lem, told_written}
-use Rattle.writing.proofs.Laws.{written_named, written_in}
+use Rattle.writing.specs.Writings.{written_from, written_in, told_written}
+use Rattle.writing.proofs.Laws.{written_named, written_in_lem}
 use Rattle.writing.proofs.Once.{written_once as IsWritten-one}
 use Rattle.roundtrips.specs.Trips.{canonical, Canonical, expected, Words, Room, Again}
 use Rattle.roundtrips.proofs.CanonicalForm.{canonical_same}
@@ -62,7 +62,7 @@ module _ (w : Reading) (h : w ≡ Plain → ⊥) (words values octets : List ℕ
       written_read ws i e ys ∙ ap (λ b. accepts (read_rule b (family_of w) rule.head.distinguisher (length xs))) (canonical_same rule values octets c)
 
 pub written_read_in : (family : ℕ) (words values octets : List ℕ) (room : ℕ) (xs : List ℕ) (rule : StoredRule)
-    → Words words → rule_at words 0 ≡ accepts rule → written_in_lem family words values octets room ≡ accepts xs
+    → Words words → rule_at words 0 ≡ accepts rule → written_in family words values octets room ≡ accepts xs
     → (ys : List ℕ) (lentWords lentValues lentOctets : ℕ) → Room (read_rule (canonical rule values octets) family rule.head.distinguisher (length xs)) lentWords lentValues lentOctets
     → standard_into family (expected rule.head.distinguisher) (xs ++ ys) lentWords lentValues lentOctets
     ≡ accepts (read_rule (canonical rule values octets) family rule.head.distinguisher (length xs))
@@ -70,7 +70,7 @@ written_read_in family words values octets room xs rule ws i e ys a b c r =
     let n = written_named family words values octets room xs e in
     let w = n.reading in
     let st = standard_shows family w n.is in
-    let q = sym (written_in family words values octets w n.is room) ∙ e in
+    let q = sym (written_in_lem family words values octets w n.is room) ∙ e in
     let p = written_read w (not_plain w st.0) words values octets room xs rule ws i q ys in
     let d = rule.head.distinguisher in
     standard_into_lem family (expected d) (xs ++ ys) a b c w n.is
@@ -92,7 +92,7 @@ module _ (w : Reading) (h : w ≡ Plain → ⊥) (rd : Bool) (s : List ℕ) (rul
 pub read_written_in : (family : ℕ) (rd : Bool) (s words values octets : List ℕ) (rule : ReadRule)
     → Octets s → standard_into family rd s (length words) (length values) (length octets) ≡ accepts rule
     → Again
-    (written_in_lem family (sets words 0 (rule_words rule.pieces (head rule.family 0 rule.distinguisher))) (sets values 0 (map number_of rule.operators)) (sets octets 0 (map octet_of rule.operators)))
+    (written_in family (sets words 0 (rule_words rule.pieces (head rule.family 0 rule.distinguisher))) (sets values 0 (map number_of rule.operators)) (sets octets 0 (map octet_of rule.operators)))
     (λ x. standard_into family rd x (length words) (length values) (length octets)) rule
 read_written_in family rd s words values octets rule o e = into_written family rd s words values octets rule o e
 

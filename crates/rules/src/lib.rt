@@ -1,10 +1,12 @@
 // A rule: its components and prefixes, and their types (mod.rs). A list component names its operators by a start and a count; the
 // operators themselves stand in lent lists.
+#![tactic(auto)]
+
 ghost use Rattle.std.specs.Prelude.{◌≡◌, get_or};
 ghost use Rattle.rules.specs.Components.{type_of, bitmask_type, numeric_type, prefix_of, list_of, prefix_counts, counts_as, holds_one, covered, components_of, component_in};
 
 // An address with a length. The two forms with an offset are RFC 8956's; the Rust has them as components of their own.
-#[derive(Drop)]
+#[derive(Clone, Copy)]
 pub enum NetworkPrefix {
     Ipv4 {
         length: u8,
@@ -29,14 +31,14 @@ pub enum NetworkPrefix {
 }
 
 // A list's operators: places counted from the rule's own first place.
-#[derive(Drop)]
+#[derive(Clone, Copy)]
 pub struct Span {
     pub start: usize,
     pub count: usize,
 }
 
 // Nothing is what an unused place of a rule holds; it is no component of a rule.
-#[derive(Drop)]
+#[derive(Clone, Copy)]
 pub enum FlowSpecComponent {
     Nothing,
     DestinationPrefix(NetworkPrefix),
@@ -55,13 +57,13 @@ pub enum FlowSpecComponent {
 }
 
 // A struct around the enum: a field can't be an array of enums.
-#[derive(Drop)]
+#[derive(Clone, Copy)]
 pub struct Slot {
     pub component: FlowSpecComponent,
 }
 
 // The route distinguisher of a rule: a rule of a virtual network has one, eight octets, held as the number that they spell.
-#[derive(Drop)]
+#[derive(Clone, Copy)]
 pub enum Distinguisher {
     Absent,
     Is(u64),
@@ -69,7 +71,7 @@ pub enum Distinguisher {
 
 // At most 13 components. `family` is 0 for a plain rule, else 4 or 6; `first` is the place in the lent lists where the rule's operators
 // begin, 0 as a reading gives it.
-#[derive(Drop)]
+#[derive(Clone, Copy)]
 pub struct FlowSpecNlri {
     pub slots: [Slot; 13],
     pub count: usize,

@@ -1,6 +1,8 @@
 // Whether a number satisfies a list of operators: truth of one operator, groups joined by AND, and a list of them.
 //
 // The functions with a `requires` are no entry points: they serve a caller that has tested where the operators stand.
+#![tactic(auto)]
+
 ghost use Rattle.std.specs.Prelude.{◌≡◌, ◌+◌, ◌≤◌, length};
 ghost use Rattle.operators.specs.Ops.{op, ops_in};
 ghost use Rattle.satisfying.specs.Lists.{compared, met, masked, truth_of, list_matches};
@@ -8,7 +10,7 @@ ghost use Rattle.satisfying.specs.Lists.{compared, met, masked, truth_of, list_m
 use operators::Kind;
 
 // How a list is put to a number: by comparisons or by masks, and in which bits an operator's value counts.
-#[derive(Drop)]
+#[derive(Clone, Copy)]
 pub struct Test {
     pub kind: Kind,
     pub bits: u64,

@@ -21,7 +21,7 @@ use Rattle.stored.specs.declared.Piece.{Piece}
 use Rattle.stored.specs.declared.Piece.TheVariants.{Prefix, Operators, NoRecord}
 use Rattle.stored.specs.Pieces.{quad, quad_of, quad_words, piece_words, prefix_quad, network_of, named, same_quad, quad_at, is_piece, piece_of, piece_at, is_record}
 use Rattle.stored.specs.Distinguishers.{presence_word, bits_word, distinguisher_at, is_distinguisher}
-use Rattle.stored.specs.Stored.{Head, head, all_words, tail_words, rule_words, count_at, family_at, pieces_from, records_from, zeros_from, StoredRule, stored_rule, is_framed, is_rule, stored_at, rule_at}
+use Rattle.stored.specs.Stored.{Head, head, all_words, tail_words, rule_words, pieces_from, records_from, zeros_from, StoredRule, stored_rule, is_framed, is_rule, stored_at, rule_at}
 use Rattle.stored.proofs.Distinguishers.{put_named, put_tested, tested_words}
 use Rattle.stored.proofs.Words.{framed, rule_framed, rule_records, at_good, length_all, length_pieces}
 

@@ -25,9 +25,9 @@ use Rattle.stored.proofs.Scans.{none_of, or_none}
 use Rattle.stored.specs.declared.Quad.{Quad}
 use Rattle.stored.specs.declared.Piece.{Piece}
 use Rattle.stored.specs.declared.Piece.TheVariants.{Prefix, Operators, NoRecord}
-use Rattle.stored.specs.Pieces.{quad, quad_of, prefix_quad, network_of, named, same_quad, is_piece, piece_of, quad_at, piece_at, is_record}
+use Rattle.stored.specs.Pieces.{quad_of, prefix_quad, network_of, named, same_quad, is_piece, piece_of, piece_at, is_record}
 use Rattle.stored.specs.Distinguishers.{is_distinguisher, distinguished_with}
-use Rattle.stored.specs.Stored.{Head, head, all_words, tail_words, rule_words, count_at, family_at, head_at, pieces_from, records_from, zeros_from, is_framed, is_rule, stored_at, rule_at}
+use Rattle.stored.specs.Stored.{Head, head, all_words, tail_words, rule_words, count_at, family_at, pieces_from, records_from, zeros_from, is_framed, is_rule, stored_at, rule_at}
 
 by_second : (a b c : Bool) (p : Piece) → b ≡ false → pick (a && (b && c)) p NoRecord ≡ NoRecord
 by_second true b c p e = rw e

@@ -1,5 +1,5 @@
 -- What a view shows of a component: the piece that it is, by its form. A form of 0 leaves open which prefix it is, or that it is none; it is no list.
-use Rattle.std.specs.Prelude.{ℕ, ◌≡◌}
+use Rattle.std.specs.Prelude.{◌≡◌}
 use Rattle.rules.specs.declared.NetworkPrefix.TheVariants.{Ipv4, Ipv6Offset}
 use Rattle.stored.specs.declared.Piece.{Piece}
 use Rattle.stored.specs.declared.Piece.TheVariants.{Prefix, Operators, NoRecord}

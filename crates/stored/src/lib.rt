@@ -2,6 +2,8 @@
 // takes a rule apart one piece at a time with nothing copied.
 //
 // The functions with a `requires` are no entry points: they serve loops that have tested what is asked.
+#![tactic(auto)]
+
 ghost use Rattle.std.specs.Prelude.{◌≡◌, ◌∷◌, [], ◌+◌, ◌-◌, ◌*◌, ◌%◌, ◌≤◌, ◌<◌, eqb, length, replicate};
 ghost use Rattle.std.proofs.lemmas.List.Edits.{sets};
 ghost use Rattle.stored.specs.Pieces.{prefix_quad, quad_of, piece_words, network_of, same_quad, quad_at, piece_of, piece_at, is_record};
@@ -13,7 +15,7 @@ use rules::{Distinguisher, NetworkPrefix};
 
 // A component taken apart: its type octet, with its prefix or the places of its operators, counted from the rule's first. Eleven types of list
 // differ in nothing but the type, so that a walk has two cases and not thirteen.
-#[derive(Drop)]
+#[derive(Clone, Copy)]
 pub enum Piece {
     Prefix { tag: u8, prefix: NetworkPrefix },
     Operators { tag: u8, start: usize, count: usize },
@@ -21,7 +23,7 @@ pub enum Piece {
 }
 
 // Four words; the first holds the type, and for a prefix its form.
-#[derive(Drop)]
+#[derive(Clone, Copy)]
 pub struct Quad {
     pub mark: u64,
     pub a: u64,
@@ -219,7 +221,7 @@ pub fn piece_at(words: &[u64], at: usize) -> Piece
 
 // What the words of a component show at a glance. Form 1 is a list, 2 a prefix of IPv4, 3 a prefix of IPv6 with an offset; 0 is whatever is none of
 // these, of which `piece_at` tells more. What a form does not have is 0. Fields share no place as an enum's do, so that a view stays in registers.
-#[derive(Drop)]
+#[derive(Clone, Copy)]
 pub struct View {
     pub form: u8,
     pub tag: u8,

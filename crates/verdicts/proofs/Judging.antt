@@ -66,7 +66,7 @@ module _ (w : Reading) (ws : List ℕ) (base : ℕ) (values octets : List ℕ) (
       pub passed : i ≤ count
       pub room : left ≤ 2047
       pub small : body ≤ 19 * i + 9 * (2047 - left)
-      pub in_range_lem : met ≡ true → packet_ok p ≡ true
+      pub fields_in_range : met ≡ true → packet_ok p ≡ true
       pub counts : counted whole ≡ rest_from w lists (drop base ws) count i left previous (front + body)
       pub meets : (ask && matched) ≡ (met && rest values octets p ws base count first i)
 
@@ -79,7 +79,7 @@ module _ (w : Reading) (ws : List ℕ) (base : ℕ) (values octets : List ℕ) (
           passed = omega arith;
           room = omega arith;
           small = omega arith;
-          in_range_lem = ok;
+          fields_in_range = ok;
           counts =
               ap counted (by_frame w (drop base ws) values octets (long h) (framed_rest base ws ∙ e))
               ∙ ap₂ (λ (k m : ℕ). counted (body_of w (lent values octets m) (distinguisher_at (drop base ws) 0) (pieces_from k (drop base ws) 0))) (count_rest base ws ∙ sym n) (first_rest base ws ∙ sym f)
@@ -153,7 +153,7 @@ module _ (w : Reading) (ws : List ℕ) (base : ℕ) (values octets : List ℕ) (
                 passed = omega arith;
                 room = let r = j.room in omega arith;
                 small = let b = j.small in let r = j.room in omega (arith, few, most_octets);
-                in_range_lem = λ e. j.in_range_lem (both met (piece_matches values octets first p piece) (sym met_now ∙ e)).0;
+                fields_in_range = λ e. j.fields_in_range (both met (piece_matches values octets first p piece) (sym met_now ∙ e)).0;
                 counts = next_counts;
                 meets = next_meets;
               }

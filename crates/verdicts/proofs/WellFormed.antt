@@ -19,7 +19,7 @@ use Rattle.stored.proofs.Words.{many, no_family}
 use Rattle.measuring.specs.Bodies.{Lent, lent}
 use Rattle.measuring.specs.Grounds.{piece_taken, all_taken}
 use Rattle.measuring.proofs.Laws.{Standard, standard_shows, list_shows, taken_none, all_more}
-use Rattle.writing.specs.Writings.{on_accepted, body_from, body_in, written_in_lem, refuses_rule, accepted as has_body}
+use Rattle.writing.specs.Writings.{on_accepted, body_from, body_in, written_in, refuses_rule, accepted as has_body}
 use Rattle.writing.proofs.Laws.{few_words, no_frame, shown, body_in_lem, body_no_family, body_named, in_any_room as any_room}
 use Rattle.ranking.specs.Ranks.{Inside, AllInside, Rankable}
 use Rattle.verdicts.specs.Verdicts.{accepted, well_formed}
@@ -32,7 +32,7 @@ same_accepted (accepts xs) = refl
 same_accepted (declines f) = refl
 
 -- "(any rule the standard writing in the rule's own family refuses by 11, 10 or 7; every other is well-formed)"
-pub in_any_room : (words values octets : List ℕ) (at room : ℕ) → well_formed words values octets at ≡ not (refuses_rule (written_in_lem (family_at words at) (drop at words) values octets room))
+pub in_any_room : (words values octets : List ℕ) (at room : ℕ) → well_formed words values octets at ≡ not (refuses_rule (written_in (family_at words at) (drop at words) values octets room))
 unfolding well_formed
 in_any_room words values octets at room =
     same_accepted (body_in (family_at words at) (drop at words) values octets) ∙ any_room (family_at words at) (drop at words) values octets room

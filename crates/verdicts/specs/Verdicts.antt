@@ -23,12 +23,12 @@ accepted (declines f) = false
 
 -- the body of the 64 words from a word on by "the standard writing in the rule's own family". What that refuses by 11, 10 or 7 it refuses of the body, in
 -- whatever room (`in_any_room` in proofs/)
-abbrev pub own_body_lem : List ℕ → List ℕ → List ℕ → ℕ → Answer (List ℕ)
-own_body_lem words values octets at = body_in (family_at words at) (drop at words) values octets
+abbrev pub own_body : List ℕ → List ℕ → List ℕ → ℕ → Answer (List ℕ)
+own_body words values octets at = body_in (family_at words at) (drop at words) values octets
 
 -- "10 (any rule the standard writing in the rule's own family refuses by 11, 10 or 7; every other is well-formed)"
 unfoldable pub well_formed : List ℕ → List ℕ → List ℕ → ℕ → Bool
-well_formed words values octets at = accepted (own_body_lem words values octets at)
+well_formed words values octets at = accepted (own_body words values octets at)
 
 -- what is told of the rule from a word on: whether it is well-formed, and whether the packet satisfies it, where it is well-formed and that is asked
 abbrev pub judged : Bool → Bool → Judged

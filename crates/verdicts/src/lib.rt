@@ -2,6 +2,8 @@
 // chooser does. One walk over a rule's components tests it and matches it.
 //
 // The functions with a `requires` are no entry points.
+#![tactic(auto)]
+
 ghost use Rattle.std.specs.Prelude.{◌≡◌, true, false, ◌&&◌, ◌+◌, ◌≤◌, length, drop};
 ghost use Rattle.stored.specs.Pieces.{piece_at};
 ghost use Rattle.stored.specs.Stored.{stored_at};
@@ -21,21 +23,21 @@ use stored::Piece;
 use wide::Wide;
 
 // Whether a packet satisfies a rule, or why that was not asked.
-#[derive(Drop)]
+#[derive(Clone, Copy)]
 pub enum Matched {
     Is(bool),
     Refused(Fault),
 }
 
 // What one rule is to another, or why that was not asked.
-#[derive(Drop)]
+#[derive(Clone, Copy)]
 pub enum Ranked {
     Is(Order),
     Refused(Fault),
 }
 
 // Whether a rule is well-formed, and whether the packet satisfies it where that is so and was asked.
-#[derive(Drop)]
+#[derive(Clone, Copy)]
 pub struct Judged {
     pub formed: bool,
     pub met: bool,
@@ -43,7 +45,7 @@ pub struct Judged {
 
 // What a component tells: its octets, 0 where the writing does not take it; its type, and how many operators it names; and whether it is taken and
 // the packet satisfies it, as it does all before it.
-#[derive(Drop)]
+#[derive(Clone, Copy)]
 pub struct Step {
     pub octets: usize,
     pub tag: u8,

@@ -11,7 +11,7 @@ use Rattle.ground.proofs.Answers.{never, same_accepted}
 use Rattle.ground.specs.Answers.{Answer, accepts, declines}
 use Rattle.ground.proofs.Cases.{lt_or_le}
 use Rattle.choices.specs.declared.Reading.{Reading}
-use Rattle.walk.specs.Walks.{FoundAt, component_at, Body, body, joined, turn, walk_from_lem, walk_at}
+use Rattle.walk.specs.Walks.{FoundAt, component_at, Body, body, joined, turn, walk_from, walk_at}
 use Rattle.walk.proofs.Components.{here}
 
 -- from a place, a last type and a first operator place on: a body, and the place where it ends
@@ -45,12 +45,12 @@ module _ (r : Reading) (s : List ℕ) (stop : ℕ) where
       (λ d z. ih p.next (get_or s at 0) (start + length p.operators) d w.inside z) e
   by_found at previous start b h go ih (declines f) q e = never e
 
-  chain_from : (k at previous start : ℕ) (b : Body) → at ≤ length s → walk_from_lem k r s stop at previous start ≡ accepts b → Chained r s stop at previous start b
-  unfolding walk_from_lem
+  chain_from : (k at previous start : ℕ) (b : Body) → at ≤ length s → walk_from k r s stop at previous start ≡ accepts b → Chained r s stop at previous start b
+  unfolding walk_from
   chain_from zero at previous start b l e = never e
   chain_from (suc k) at previous start b l e =
       ⊎_elim
-      (λ h. by_found at previous start b h (walk_from_lem k r s stop) (λ x t i d m w. chain_from k x t i d m w) (component_at r s at previous start) refl (rw (lt-leb stop at h) at e))
+      (λ h. by_found at previous start b h (walk_from k r s stop) (λ x t i d m w. chain_from k x t i d m w) (component_at r s at previous start) refl (rw (lt-leb stop at h) at e))
       (λ h. subst (Chained r s stop at previous start) (same_accepted (rw (le-leb stop at h) at e)) (record { end = at; chain = none h; past = h; within = l }))
       (lt_or_le at stop)
 

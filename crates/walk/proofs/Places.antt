@@ -21,7 +21,7 @@ use Rattle.lists.specs.declared.Tally.{Tally}
 use Rattle.lists.specs.Lists.{list_at, ops_at, recorded_ops}
 use Rattle.lists.proofs.Laws.{recorded_counts}
 use Rattle.lists.proofs.Places.{list_breaks, list_alike}
-use Rattle.walk.specs.Walks.{FoundAt, prefix_found, list_found, typed_at, component_at, Body, body, joined, turn, walk_from_lem, walk_at, sight, seen}
+use Rattle.walk.specs.Walks.{FoundAt, prefix_found, list_found, typed_at, component_at, Body, body, joined, turn, walk_from, walk_at, sight, seen}
 use Rattle.walk.proofs.Ways.{found_missing, found_order, found_type, found_typed, typed_prefix, typed_list, prefix_seen, list_seen}
 use Rattle.walk.proofs.Components.{Here, here, Sighted, sighted}
 
@@ -147,42 +147,42 @@ joined_refused p (accepts b) e = never (sym e)
 joined_refused p (declines g) e = ap declines (same_refusal e)
 
 walk_step : (r : Reading) (s : List ℕ) (stop k at previous start : ℕ) → at < stop
-    → walk_from_lem (suc k) r s stop at previous start ≡ turn (get_or s at 0) start (component_at r s at previous start) (walk_from_lem k r s stop)
-unfolding walk_from_lem
+    → walk_from (suc k) r s stop at previous start ≡ turn (get_or s at 0) start (component_at r s at previous start) (walk_from k r s stop)
+unfolding walk_from
 walk_step r s stop k at previous start h = rw (lt-leb stop at h)
 
-walk_over : (r : Reading) (s : List ℕ) (stop k at previous start : ℕ) → stop ≤ at → walk_from_lem (suc k) r s stop at previous start ≡ accepts (body [] [])
-unfolding walk_from_lem
+walk_over : (r : Reading) (s : List ℕ) (stop k at previous start : ℕ) → stop ≤ at → walk_from (suc k) r s stop at previous start ≡ accepts (body [] [])
+unfolding walk_from
 walk_over r s stop k at previous start h = rw (le-leb stop at h)
 
-walk_spent : (r : Reading) (s : List ℕ) (stop at previous start : ℕ) → walk_from_lem zero r s stop at previous start ≡ refuses_at 1 [] (length s)
-unfolding walk_from_lem
+walk_spent : (r : Reading) (s : List ℕ) (stop at previous start : ℕ) → walk_from zero r s stop at previous start ≡ refuses_at 1 [] (length s)
+unfolding walk_from
 walk_spent r s stop at previous start = refl
 
 module _ (r : Reading) (s : List ℕ) (stop : ℕ) where
   abbrev Walked : ℕ → ℕ → ℕ → ℕ → Refused → Type 0
-  Walked k at previous start = Breaks (behind r) (λ (u : List ℕ). walk_from_lem k r u stop at previous start) s at (length s)
+  Walked k at previous start = Breaks (behind r) (λ (u : List ℕ). walk_from k r u stop at previous start) s at (length s)
 
   by_found : (k at previous start : ℕ) → at < stop → at ≤ length s → {f : Refused}
-      → ((x t i : ℕ) → x ≤ length s → walk_from_lem k r s stop x t i ≡ declines f → Walked k x t i f) → (a : Answer FoundAt) → component_at r s at previous start ≡ a
-      → turn (get_or s at 0) start a (walk_from_lem k r s stop) ≡ declines f → Walked (suc k) at previous start f
+      → ((x t i : ℕ) → x ≤ length s → walk_from k r s stop x t i ≡ declines f → Walked k x t i f) → (a : Answer FoundAt) → component_at r s at previous start ≡ a
+      → turn (get_or s at 0) start a (walk_from k r s stop) ≡ declines f → Walked (suc k) at previous start f
   by_found k at previous start h l ih (accepts p) z e =
       let d = here r s at previous start z in
       let t = get_or s at 0 in
       let n = start + length p.operators in
-      breaks_on (ih p.next t n d.inside (joined_refused p (walk_from_lem k r s stop p.next t n) e)) _ at (omega (arith, d.past))
+      breaks_on (ih p.next t n d.inside (joined_refused p (walk_from k r s stop p.next t n) e)) _ at (omega (arith, d.past))
       (λ u a q.
       let c = component_alike r s at previous start z u (alike_less (omega arith) a) in
       let o = a.same at (omega (arith, d.past)) in
       walk_step r u stop k at previous start h
-      ∙ ap (λ (x : Answer FoundAt). turn (get_or u at 0) start x (walk_from_lem k r u stop)) c.is
+      ∙ ap (λ (x : Answer FoundAt). turn (get_or u at 0) start x (walk_from k r u stop)) c.is
       ∙ ap (joined c.what)
-      (ap₂ (λ (x y : ℕ). walk_from_lem k r u stop x (get_or u at 0) (start + y)) c.next c.count ∙ ap (λ (x : ℕ). walk_from_lem k r u stop p.next x n) o ∙ q))
+      (ap₂ (λ (x y : ℕ). walk_from k r u stop x (get_or u at 0) (start + y)) c.next c.count ∙ ap (λ (x : ℕ). walk_from k r u stop p.next x n) o ∙ q))
   by_found k at previous start h l ih (declines g) z e =
       breaks_on (component_breaks r s at previous start l (z ∙ ap declines (same_refusal e))) _ at (omega arith)
-      (λ u a q. walk_step r u stop k at previous start h ∙ ap (λ (x : Answer FoundAt). turn (get_or u at 0) start x (walk_from_lem k r u stop)) q)
+      (λ u a q. walk_step r u stop k at previous start h ∙ ap (λ (x : Answer FoundAt). turn (get_or u at 0) start x (walk_from k r u stop)) q)
 
-  from_breaks : (k at previous start : ℕ) → at ≤ length s → {f : Refused} → walk_from_lem k r s stop at previous start ≡ declines f → Walked k at previous start f
+  from_breaks : (k at previous start : ℕ) → at ≤ length s → {f : Refused} → walk_from k r s stop at previous start ≡ declines f → Walked k at previous start f
   from_breaks zero at previous start l e =
       subst (Walked zero at previous start) (same_refusal (sym (walk_spent r s stop at previous start) ∙ e))
       (breaks_at_end (behind r) _ s at l (λ u a. walk_spent r u stop at previous start))

@@ -1,6 +1,6 @@
 -- Which refusals a walk meets, by induction over it: 1 to 4, in the plain reading 5, and in the standard ones 6, at an operator octet whose width
 -- its component's type does not take.
-use Prim.Native.Nat.{ℕ, zero, suc, ◌+◌, ◌-◌, ◌≤◌, ◌<◌}
+use Prim.Native.Nat.{ℕ, zero, suc, ◌+◌, ◌≤◌, ◌<◌}
 use mathlib.Core.Path.{◌≡◌, refl}
 use mathlib.Core.Bool.{Bool, true, false, ◌||◌}
 use mathlib.Core.List.{List, [], ◌∷◌}
@@ -24,7 +24,7 @@ use Rattle.prefixes.proofs.Laws.{prefix_ways}
 use Rattle.lists.specs.declared.Tally.{Tally}
 use Rattle.lists.specs.Lists.{too_wide, list_at, ops_at, recorded_ops}
 use Rattle.lists.proofs.Laws.{list_refuses}
-use Rattle.walk.specs.Walks.{FoundAt, prefix_found, list_found, typed_at, component_at, Body, body, joined, turn, walk_from_lem, walk_at}
+use Rattle.walk.specs.Walks.{FoundAt, prefix_found, list_found, typed_at, component_at, Body, body, joined, turn, walk_from, walk_at}
 
 -- the numbers that a walk may refuse with
 abbrev pub walk_meets : Reading → ℕ → Bool
@@ -136,13 +136,13 @@ module _ (r : Reading) (s : List ℕ) where
   turn_met P t start (accepts p) go h ih = joined_met P p (go p.next t (start + length p.operators)) (ih p.next t (start + length p.operators))
   turn_met P t start (declines f) go h ih = h
 
-  walk_from : (k stop at previous start : ℕ) → Met (Meets r s) (walk_from_lem k r s stop at previous start)
-  unfolding walk_from_lem
-  walk_from zero stop at previous start = early _ refl
-  walk_from (suc k) stop at previous start =
-      either_met (Meets r s) (leb stop at) (accepts (body [] [])) (turn (get_or s at 0) start (component_at r s at previous start) (walk_from_lem k r s stop)) (λ e. tt)
-      (λ e. turn_met (Meets r s) (get_or s at 0) start (component_at r s at previous start) (walk_from_lem k r s stop) (met_component at previous start) (λ x y z. walk_from k stop x y z))
+  walk_from_lem : (k stop at previous start : ℕ) → Met (Meets r s) (walk_from k r s stop at previous start)
+  unfolding walk_from
+  walk_from_lem zero stop at previous start = early _ refl
+  walk_from_lem (suc k) stop at previous start =
+      either_met (Meets r s) (leb stop at) (accepts (body [] [])) (turn (get_or s at 0) start (component_at r s at previous start) (walk_from k r s stop)) (λ e. tt)
+      (λ e. turn_met (Meets r s) (get_or s at 0) start (component_at r s at previous start) (walk_from k r s stop) (met_component at previous start) (λ x y z. walk_from_lem k stop x y z))
 
   pub met_walk : (stop : ℕ) → Met (Meets r s) (walk_at r s stop)
   unfolding walk_at
-  met_walk stop = walk_from 14 stop 0 0 0
+  met_walk stop = walk_from_lem 14 stop 0 0 0

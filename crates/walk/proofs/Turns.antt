@@ -13,7 +13,7 @@ use Rattle.choices.specs.declared.Reading.TheVariants.{Plain, Ipv4, Ipv6}
 use Rattle.choices.specs.Choices.{last_type}
 use Rattle.lists.specs.Runs.{alone_at}
 use Rattle.lists.proofs.Runs.{alone_done}
-use Rattle.walk.specs.Walks.{FoundAt, component_at, Body, body, joined, turn, walk_from_lem, walk_at, sight, seen, counted}
+use Rattle.walk.specs.Walks.{FoundAt, component_at, Body, body, joined, turn, walk_from, walk_at, sight, seen, counted}
 use Rattle.walk.specs.Turns.{rest, counted_on, Walking, Prefixed}
 use Rattle.prefixes.specs.Prefixes.{octets_of, named_at}
 use Rattle.prefixes.proofs.Laws.{taken_extent}
@@ -26,12 +26,12 @@ rest_first r s stop = refl
 
 module _ (r : Reading) (s : List ℕ) (stop at previous start j : ℕ) (few : j ≤ 13) where
   pub rest_end : stop ≤ at → rest r s stop at previous start j ≡ accepts (body [] [])
-  unfolding rest walk_from_lem
+  unfolding rest walk_from
   rest_end h = let f : 14 - j ≡ suc (14 - (j + 1)) = omega arith in rw (f, le-leb stop at h)
 
   module _ (h : at < stop) where
-    step_of : rest r s stop at previous start j ≡ turn (get_or s at 0) start (component_at r s at previous start) (walk_from_lem (14 - (j + 1)) r s stop)
-    unfolding rest walk_from_lem
+    step_of : rest r s stop at previous start j ≡ turn (get_or s at 0) start (component_at r s at previous start) (walk_from (14 - (j + 1)) r s stop)
+    unfolding rest walk_from
     step_of = let f : 14 - j ≡ suc (14 - (j + 1)) = omega arith in rw (f, lt-leb stop at h)
 
     pub rest_refused : {f : Refused} → component_at r s at previous start ≡ declines f → rest r s stop at previous start j ≡ declines f
@@ -80,12 +80,12 @@ module _ {r : Reading} {s : List ℕ} {stop at previous operators : ℕ} (w : Wa
       pub found : Sighted (component_at r s at previous operators) n m
       found = sighted (component_at r s at previous operators) e
 
-      pub found_here : Here r s at previous operators found.what
-      found_here = here r s at previous operators found.is
+      pub found_here_lem : Here r s at previous operators found.what
+      found_here_lem = here r s at previous operators found.is
 
       pub found_bounds : (at < length s) × ((previous < get_or s at 0) × ((get_or s at 0 ≤ 13) × ((at + n < m) × (m ≤ length s))))
       found_bounds =
-          let d = found_here in
+          let d = found_here_lem in
           let f = found in
           let i = f.count in
           let j = f.next in

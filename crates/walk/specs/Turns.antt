@@ -3,11 +3,11 @@ use Rattle.std.specs.Prelude.{ℕ, ◌+◌, ◌-◌, ◌≤◌, ◌≡◌, List,
 use Rattle.ground.specs.Answers.{Answer, accepts, declines}
 use Rattle.choices.specs.declared.Reading.{Reading}
 use Rattle.prefixes.specs.Prefixes.{named_at, extent_at}
-use Rattle.walk.specs.Walks.{Body, walk_from_lem, walk_at, counted}
+use Rattle.walk.specs.Walks.{Body, walk_from, walk_at, counted}
 
 -- what is left of a walk at a place, after j components
 unfoldable pub rest : Reading → List ℕ → ℕ → ℕ → ℕ → ℕ → ℕ → Answer Body
-rest r s stop at previous start j = walk_from_lem (14 - j) r s stop at previous start
+rest r s stop at previous start j = walk_from (14 - j) r s stop at previous start
 
 -- the operators of a walk of which n are passed
 abbrev pub counted_on : ℕ → Answer Body → Answer ℕ

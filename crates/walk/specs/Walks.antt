@@ -69,13 +69,13 @@ turn type start (declines f) go = declines f
 
 -- from a place on: components start before `stop`, "a last component may overrun it" where the octets go on. The first number bounds the
 -- components: their types rise from 1 to 13
-unfoldable pub walk_from_lem : ℕ → Reading → List ℕ → ℕ → ℕ → ℕ → ℕ → Answer Body
-walk_from_lem zero reading s stop at previous start = refuses_at 1 [] (length s)
-walk_from_lem (suc k) reading s stop at previous start =
-    pick (leb stop at) (accepts (body [] [])) (turn (get_or s at 0) start (component_at reading s at previous start) (walk_from_lem k reading s stop))
+unfoldable pub walk_from : ℕ → Reading → List ℕ → ℕ → ℕ → ℕ → ℕ → Answer Body
+walk_from zero reading s stop at previous start = refuses_at 1 [] (length s)
+walk_from (suc k) reading s stop at previous start =
+    pick (leb stop at) (accepts (body [] [])) (turn (get_or s at 0) start (component_at reading s at previous start) (walk_from k reading s stop))
 
 unfoldable pub walk_at : Reading → List ℕ → ℕ → Answer Body
-walk_at reading s stop = walk_from_lem 14 reading s stop 0 0 0
+walk_at reading s stop = walk_from 14 reading s stop 0 0 0
 
 -- what the first walk sees of a component: how many operators it has, and the place after it
 pub record Sight : Type 0 where

@@ -1,5 +1,7 @@
 // The component walk: one component at a cursor, then all of them, by each of the three readings. Nothing is written: a walk answers how
 // many operators there are, or its first fault. In the Rust it is nlri.rs, parse_component and the loop that calls it.
+#![tactic(auto)]
+
 ghost use Rattle.std.specs.Prelude.{◌≡◌, ℕ, ◌+◌, ◌≤◌, ◌<◌, length, get_or};
 ghost use Rattle.prefixes.specs.Prefixes.{octets_of};
 ghost use Rattle.walk.specs.Turns.{Walking, Prefixed};
@@ -12,14 +14,14 @@ use prefixes::ExtentRead;
 use refusals::{Fault, FlowSpecError, Place};
 
 // One component: how many operators it has, and the cursor moved past it.
-#[derive(Drop)]
+#[derive(Clone, Copy)]
 pub enum Found {
     Component { operators: usize, next: Cursor },
     Refused(Fault),
 }
 
 // All of them: how many operators they have.
-#[derive(Drop)]
+#[derive(Clone, Copy)]
 pub enum Walked {
     Accepted { operators: usize },
     Refused(Fault),
@@ -75,7 +77,7 @@ pub fn component_at(reading: Reading, s: &[u8], c: Cursor, previous: u8) -> Foun
 }
 
 // How far components are passed: the place after them, the last type, and the operators so far.
-#[derive(Drop)]
+#[derive(Clone, Copy)]
 pub struct Passed {
     pub at: usize,
     pub previous: u8,

@@ -25,7 +25,7 @@ use Rattle.stored.proofs.Inverse.{FitAll, put_read}
 use Rattle.measuring.specs.Bodies.{Lent, lent, whole_octets}
 use Rattle.measuring.specs.Grounds.{body_taken, body_of}
 use Rattle.measuring.proofs.Laws.{Taken, body_needs}
-use Rattle.writing.specs.Writings.{accepted, refuses_rule, on_accepted, rule_body, body_from, body_in, nlri_octets, in_room, written_rule, written_from, written_in_lem}
+use Rattle.writing.specs.Writings.{accepted, refuses_rule, on_accepted, rule_body, body_from, body_in, nlri_octets, in_room, written_rule, written_from, written_in}
 use Rattle.writing.proofs.Ways.{whole_long, in_standard}
 -- a body by its words: fewer than 64, no frame, a frame; and what a rule that has one shows
 pub use Rattle.writing.proofs.Ways.{few_words, no_frame, by_frame, Shown, shown, length_most}
@@ -63,16 +63,16 @@ module _ (family : ℕ) (ws values octets : List ℕ) where
     unfolding body_in
     body_in_lem = ap (λ a. on_accepted a (λ x. body_from x ws values octets)) e
 
-    pub written_in : (room : ℕ) → written_in_lem family ws values octets room ≡ written_from w ws values octets room
-    written_in room = sym (in_standard family ws values octets w room (sym e))
+    pub written_in_lem : (room : ℕ) → written_in family ws values octets room ≡ written_from w ws values octets room
+    written_in_lem room = sym (in_standard family ws values octets w room (sym e))
 
   module _ (f : Refused) (e : standard_of family ≡ declines f) where
     pub body_no_family : body_in family ws values octets ≡ declines f
     unfolding body_in
     body_no_family = ap (λ a. on_accepted a (λ x. body_from x ws values octets)) e
 
-    pub written_no_family : (room : ℕ) → written_in_lem family ws values octets room ≡ declines f
-    unfolding written_in_lem
+    pub written_no_family : (room : ℕ) → written_in family ws values octets room ≡ declines f
+    unfolding written_in
     written_no_family room = ap (λ a. on_accepted a (in_room room)) body_no_family
 
 -- ---- what a rule that is written shows
@@ -120,8 +120,8 @@ module _ (family : ℕ) (ws values octets : List ℕ) where
   room_named room xs (accepts b) q e = body_named b q
   room_named room xs (declines f) q e = never e
 
-  pub written_named : (room : ℕ) (xs : List ℕ) → written_in_lem family ws values octets room ≡ accepts xs → Named family
-  unfolding written_in_lem
+  pub written_named : (room : ℕ) (xs : List ℕ) → written_in family ws values octets room ≡ accepts xs → Named family
+  unfolding written_in
   written_named room xs e = room_named room xs (body_in family ws values octets) refl e
 
 -- and what it needs
@@ -130,9 +130,9 @@ module _ (w : Reading) (ws values octets : List ℕ) (s : StoredRule) (e : rule_
   unfolding body_from
   body_as_lem = ap (λ a. on_accepted a (λ r. rule_body w r values octets)) e
 
-  pub written_as : (room : ℕ) → written_from w ws values octets room ≡ written_rule w s values octets room
+  pub written_as_lem : (room : ℕ) → written_from w ws values octets room ≡ written_rule w s values octets room
   unfolding written_from written_rule
-  written_as room = ap (λ a. on_accepted a (in_room room)) body_as_lem
+  written_as_lem room = ap (λ a. on_accepted a (in_room room)) body_as_lem
 
   pub writes : Taken w (lent values octets s.head.first) s.head.distinguisher s.pieces → (room : ℕ)
       → length (nlri_octets (whole_octets w (lent values octets s.head.first) s.head.distinguisher s.pieces)) ≤ room
@@ -145,9 +145,9 @@ module _ (w : Reading) (ws values octets : List ℕ) (s : StoredRule) (e : rule_
 -- ---- in any room
 
 -- a body is refused by one of these or not at all
-own_body : (w : Reading) (l : Lent) (d : Distinguisher) (ps : List Piece) → refuses_rule (body_of w l d ps) ≡ not (accepted (body_of w l d ps))
+own_body_lem : (w : Reading) (l : Lent) (d : Distinguisher) (ps : List Piece) → refuses_rule (body_of w l d ps) ≡ not (accepted (body_of w l d ps))
 unfolding body_of
-own_body w l d ps =
+own_body_lem w l d ps =
     by_test (body_taken w l ps)
     (λ e. by_test (ltb 4095 (length (whole_octets w l d ps))) (λ m. rw (e, m)) (λ m. rw (e, m)))
     (λ e. rw e)
@@ -157,7 +157,7 @@ unfolding body_from
 own_from w ws values octets =
     ⊎_elim
     (λ h. by_test (is_rule ws 0)
-    (λ r. rw (at_good ws 0 h r) (own_body w (lent values octets (stored_at ws 0).head.first) (stored_at ws 0).head.distinguisher (stored_at ws 0).pieces))
+    (λ r. rw (at_good ws 0 h r) (own_body_lem w (lent values octets (stored_at ws 0).head.first) (stored_at ws 0).head.distinguisher (stored_at ws 0).pieces))
     (λ r. rw (at_bad ws 0 h r)))
     (λ h. rw (at_outside ws 0 h))
     (lt_or_le 0 (length ws / 64))
@@ -176,8 +176,8 @@ whatever_room room (accepts body) e = by_test (ltb room (length (nlri_octets bod
 whatever_room room (declines f) e = rw e
 
 -- "any rule the standard writing .. refuses by 11, 10 or 7; every other is well-formed": it has a body, and room is not asked
-pub in_any_room : (family : ℕ) (ws values octets : List ℕ) (room : ℕ) → accepted (body_in family ws values octets) ≡ not (refuses_rule (written_in_lem family ws values octets room))
-unfolding written_in_lem
+pub in_any_room : (family : ℕ) (ws values octets : List ℕ) (room : ℕ) → accepted (body_in family ws values octets) ≡ not (refuses_rule (written_in family ws values octets room))
+unfolding written_in
 in_any_room family ws values octets room = whatever_room room (body_in family ws values octets) (own_in family ws values octets)
 
 -- ---- a rule put into words is written as its pieces are
@@ -186,4 +186,4 @@ module _ (ps : List Piece) (h : Head) (few : length ps ≤ 13) (fit : FitAll ps)
   put_body = body_as_lem w (sets ws 0 (rule_words ps h)) values octets (stored_rule ps h) (put_read ps h few fit octet ws 0 (omega arith))
 
   pub put_written : (room : ℕ) → written_from w (sets ws 0 (rule_words ps h)) values octets room ≡ written_rule w (stored_rule ps h) values octets room
-  put_written room = written_as w (sets ws 0 (rule_words ps h)) values octets (stored_rule ps h) (put_read ps h few fit octet ws 0 (omega arith)) room
+  put_written room = written_as_lem w (sets ws 0 (rule_words ps h)) values octets (stored_rule ps h) (put_read ps h few fit octet ws 0 (omega arith)) room

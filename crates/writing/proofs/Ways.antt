@@ -1,6 +1,6 @@
 -- The ways that a writing goes, over plain lists: the body by its words' frame and its components, the whole by the body and the room, and what the
 -- output is after each.
-use Prim.Native.Nat.{ℕ, ◌+◌, ◌-◌, ◌*◌, ◌/◌, ◌≤◌, ◌<◌}
+use Prim.Native.Nat.{ℕ, ◌+◌, ◌*◌, ◌/◌, ◌≤◌, ◌<◌}
 use mathlib.Core.Path.{◌≡◌, refl, sym, ap, ap₂, ◌∙◌}
 use mathlib.Core.Bool.{true, false}
 use mathlib.Core.List.{List, [], ◌∷◌, ◌++◌}
@@ -23,7 +23,7 @@ use Rattle.stored.proofs.Inverse.{accepted}
 use Rattle.measuring.specs.Bodies.{lent, distinguisher_octets, body_octets, whole_octets}
 use Rattle.measuring.specs.Grounds.{all_taken, body_of, counted}
 use Rattle.measuring.proofs.Laws.{Taken, all_records, body_shows, body_bad}
-use Rattle.writing.specs.Writings.{octets_in, on_accepted, rule_body, body_from, body_in, nlri_octets, in_room, written_from, written_in_lem}
+use Rattle.writing.specs.Writings.{octets_in, on_accepted, rule_body, body_from, body_in, nlri_octets, in_room, written_from, written_in}
 
 -- ---- the body
 
@@ -63,9 +63,9 @@ pub record Shown (w : Reading) (ws values octets xs : List ℕ) : Type 0 where
   pub is : xs ≡ whole_octets w (lent values octets (first_at ws 0)) (distinguisher_at ws 0) (pieces_from (count_at ws 0) ws 0)
 
 module _ (w : Reading) (ws values octets xs : List ℕ) where
-  shown_by : (a : Answer StoredRule) → rule_at ws 0 ≡ a → on_accepted a (λ s. rule_body w s values octets) ≡ accepts xs → Shown w ws values octets xs
-  shown_by (declines f) r e = never e
-  shown_by (accepts s) r e =
+  shown_by_lem : (a : Answer StoredRule) → rule_at ws 0 ≡ a → on_accepted a (λ s. rule_body w s values octets) ≡ accepts xs → Shown w ws values octets xs
+  shown_by_lem (declines f) r e = never e
+  shown_by_lem (accepts s) r e =
       let a = accepted ws 0 s r in
       let h = a.0 in
       let f = framed ws 0 (rule_framed ws 0 a.1) in
@@ -74,7 +74,7 @@ module _ (w : Reading) (ws values octets xs : List ℕ) where
 
   pub shown : body_from w ws values octets ≡ accepts xs → Shown w ws values octets xs
   unfolding body_from
-  shown e = shown_by (rule_at ws 0) refl e
+  shown e = shown_by_lem (rule_at ws 0) refl e
 
 -- ---- the output
 
@@ -161,11 +161,11 @@ module _ (w : Reading) (ws values octets : List ℕ) (n : ℕ) (told : accepts n
     abbrev behind : List ℕ
     behind = body_octets w (lent values octets m) (pieces_from k ws 0)
 
-    is_body : octets_in (body_from w ws values octets) ≡ front ++ behind
-    is_body = measured_shows.is ∙ rw (is-k, is_m)
+    is_body_lem : octets_in (body_from w ws values octets) ≡ front ++ behind
+    is_body_lem = measured_shows.is ∙ rw (is-k, is_m)
 
     long_body : length front + length behind ≡ n
-    long_body = sym (ap length is_body ∙ length-append front behind) ∙ measured_long
+    long_body = sym (ap length is_body_lem ∙ length-append front behind) ∙ measured_long
 
     pub put_words : 4 * k ≤ length ws
     put_words = let s = measured_shows in omega (arith, s.few, s.whole)
@@ -184,12 +184,12 @@ module _ (w : Reading) (ws values octets : List ℕ) (n : ℕ) (told : accepts n
           → o₃ ≡ sets o₂ from behind → o₃ ≡ sets out 0 (nlri_octets (octets_in (body_from w ws values octets)))
       put_done out r {o₁} f g h =
           nlri_stored out (octets_in (body_from w ws values octets)) n measured_long measured_most r is_at f
-          (h ∙ ap₂ (λ (xs : List ℕ) (j : ℕ). sets xs j behind) g is-from ∙ sym (sets_append o₁ at front behind) ∙ ap (λ (xs : List ℕ). sets o₁ at xs) (sym is_body))
+          (h ∙ ap₂ (λ (xs : List ℕ) (j : ℕ). sets xs j behind) g is-from ∙ sym (sets_append o₁ at front behind) ∙ ap (λ (xs : List ℕ). sets o₁ at xs) (sym is_body_lem))
 
 -- ---- the standard writing, by its family
 module _ (family : ℕ) (ws values octets : List ℕ) where
-  pub in_standard : (w : Reading) (room : ℕ) → accepts w ≡ standard_of family → written_from w ws values octets room ≡ written_in_lem family ws values octets room
-  unfolding written_from written_in_lem body_in
+  pub in_standard : (w : Reading) (room : ℕ) → accepts w ≡ standard_of family → written_from w ws values octets room ≡ written_in family ws values octets room
+  unfolding written_from written_in body_in
   in_standard w room e = ap (λ a. on_accepted (on_accepted a (λ x. body_from x ws values octets)) (in_room room)) e
 
   pub not_standard : (f : Refused) → declines f ≡ standard_of family → declines f ≡ counted (body_in family ws values octets)

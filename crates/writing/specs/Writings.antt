@@ -70,5 +70,5 @@ written_rule w s values octets room = on_accepted (rule_body w s values octets) 
 unfoldable pub written_from : Reading → List ℕ → List ℕ → List ℕ → ℕ → Answer (List ℕ)
 written_from w words values octets room = on_accepted (body_from w words values octets) (in_room room)
 
-unfoldable pub written_in_lem : ℕ → List ℕ → List ℕ → List ℕ → ℕ → Answer (List ℕ)
-written_in_lem family words values octets room = on_accepted (body_in family words values octets) (in_room room)
+unfoldable pub written_in : ℕ → List ℕ → List ℕ → List ℕ → ℕ → Answer (List ℕ)
+written_in family words values octets room = on_accepted (body_in family words values octets) (in_room room)

@@ -3,6 +3,8 @@
 // test all of them before it stores one.
 //
 // The functions with a `requires` are no entry points.
+#![tactic(auto)]
+
 ghost use Rattle.std.specs.Prelude.{◌≡◌, true, ◌∷◌, ◌+◌, ◌-◌, ◌*◌, ◌/◌, ◌^◌, ◌≤◌, length};
 ghost use Rattle.std.proofs.lemmas.List.Edits.{sets};
 ghost use Rattle.ground.specs.Answers.{accepts};
@@ -17,7 +19,7 @@ ghost use Rattle.stored.specs.Stored.{pieces_from};
 ghost use Rattle.listwriting.specs.Lists.{size_in};
 ghost use Rattle.measuring.specs.Bodies.{lent, ops_of, prefix_octets, piece_octets, body_octets, distinguisher_octets};
 ghost use Rattle.measuring.specs.Grounds.{inside_of, prefix_taken, piece_taken, all_taken, told_measured};
-ghost use Rattle.writing.specs.Writings.{told_written, counted, octets_in, nlri_octets, body_from, written_from, written_in_lem};
+ghost use Rattle.writing.specs.Writings.{told_written, counted, octets_in, nlri_octets, body_from, written_from, written_in};
 
 use choices::{Reading, Standard};
 use measuring::Measured;
@@ -26,7 +28,7 @@ use rules::{Distinguisher, NetworkPrefix};
 use stored::Piece;
 
 // How many octets were written, or why none.
-#[derive(Drop)]
+#[derive(Clone, Copy)]
 pub enum Written {
     Octets(usize),
     Refused(Fault),
@@ -270,8 +272,8 @@ pub fn write_from(
 
 // The standard writing in a family, the one that the call names: the family that the rule itself was stored with is not looked at.
 pub fn write(family: u8, words: &[u64], values: &[u64], octets: &[u8], out: &mut [u8]) -> Written
-    ensures told { told_written result ≡ counted (written_in_lem family words.now values.now octets.now (length out.old)) }
-    ensures octets { out.new ≡ sets out.old 0 (octets_in (written_in_lem family words.now values.now octets.now (length out.old))) }
+    ensures told { told_written result ≡ counted (written_in family words.now values.now octets.now (length out.old)) }
+    ensures octets { out.new ≡ sets out.old 0 (octets_in (written_in family words.now values.now octets.now (length out.old))) }
 {
     let standard = choices::reading_of(family);
     match standard {
