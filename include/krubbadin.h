@@ -1,6 +1,6 @@
 /*
  * BGP FlowSpec rules (RFC 8955, RFC 8956), checked, read, written, matched, ranked and chosen by proved code: the surface of
- * libkrubbadin.a, which `rt staticlib krubbadin` writes. It needs nothing but memset and memcpy of the C library, takes no heap, keeps no state, and may be
+ * libkrubbadin.a, which `rt lib --cpu x86-64` writes in crates/krubbadin. It needs nothing but memset and memcpy of the C library, takes no heap, keeps no state, and may be
  * called from many threads.
  *
  * A slice is a pointer and a length, the length in elements. The pointer may be NULL where the length is 0; else it points to so many

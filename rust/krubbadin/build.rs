@@ -1,5 +1,5 @@
 //! Links libkrubbadin.a, the archive of the proved code: the one that KRUBBADIN_ARCHIVE names, else
-//! what `rt staticlib krubbadin` wrote, else what tools/host-archive made.
+//! what `rt lib` wrote in crates/krubbadin, else what tools/host-archive made.
 
 use std::path::{Path, PathBuf};
 use std::{env, process};
@@ -27,10 +27,8 @@ fn main() {
                 .collect();
             eprintln!("krubbadin: there is no {NAME}, the archive of the proved code. Looked at:");
             eprintln!("  {}", tried.join("\n  "));
-            eprintln!(
-                "Make it with `rt staticlib krubbadin` at the root of the repository (on Arm:"
-            );
-            eprintln!("tools/host-archive), or let {NAMED} name one; its file name is {NAME}.");
+            eprintln!("Make it with `rt lib --cpu x86-64` in crates/krubbadin (for Arm: tools/host-archive");
+            eprintln!("aarch64), or let {NAMED} name one; its file name is {NAME}.");
             process::exit(1);
         }
     }
@@ -39,12 +37,12 @@ fn main() {
 /// Where an archive for the processor may stand in this repository.
 fn made_here() -> Vec<PathBuf> {
     let folder = env::var_os("CARGO_MANIFEST_DIR").expect("cargo names the crate's folder");
-    let target = Path::new(&folder).join("../../target");
+    let root = Path::new(&folder).join("../..");
     let machine = env::var("CARGO_CFG_TARGET_ARCH").expect("cargo names the processor");
-    let mut files = vec![target.join("archive").join(&machine).join(NAME)];
+    let mut files = vec![root.join("target/archive").join(&machine).join(NAME)];
     // What rt writes is for x86-64.
     if machine == "x86_64" {
-        files.insert(0, target.join("staticlib").join(NAME));
+        files.insert(0, root.join("crates/krubbadin/out").join(NAME));
     }
     files
 }
