@@ -1,7 +1,7 @@
 -- Document 01's starred cases, proved of the definitions: each row is a question and what the document says, and the one statement
 -- `cases_hold` says that the definitions give just that in every row; where a row speaks of every packet, it is of any packet whatever.
 -- Octets are written as the document prints them, in hex.
-use Rattle.std.specs.Prelude.{ℕ, ◌^◌, ◌≡◌, refl, Bool, true, false, List, [], ◌∷◌, ◌++◌, map}
+use Rattle.std.specs.Prelude.{ℕ, ◌^◌, ◌≡◌, refl, Bool, true, false, List, [], ◌∷◌, ◌++◌, map, None, Some}
 use Rattle.ground.specs.Answers.{Answer, accepts, refuses, refuses_at}
 use Rattle.choices.specs.declared.Reading.{Reading}
 use Rattle.choices.specs.declared.Reading.TheVariants.{Plain, Ipv4, Ipv6}
@@ -9,7 +9,6 @@ use Rattle.choices.specs.Choices.{refused_in, family_of, standard_of}
 use Rattle.operators.specs.Ops.{kind_of, Op, op, octet_of, number_of, ops_in, list_octets}
 use Rattle.octets.specs.Lengths.{length_at, length_octets}
 use Rattle.octets.specs.Spell.{spell, spelled}
-use Rattle.rules.specs.declared.Distinguisher.TheVariants.{Absent, Is}
 use Rattle.rules.specs.declared.NetworkPrefix.TheVariants.{Ipv4 as V4, Ipv6Offset}
 use Rattle.stored.specs.declared.Piece.{Piece}
 use Rattle.stored.specs.declared.Piece.TheVariants.{Prefix, Operators}
@@ -29,7 +28,7 @@ use Rattle.matching.specs.Cases.{packet, from_to, flagged, to}
 use Rattle.matching.specs.Rules.{some_matches, piece_matches, rule_matches}
 use Rattle.reading.specs.Readings.{ReadRule, front_at, stated_at, read_at, words_of, operators_of}
 use Rattle.writing.specs.Writings.{body_from, body_in, written_from}
-use Rattle.ranking.specs.Ranks.{lower, in_turn, rank_front, rank_compared, rank_of}
+use Rattle.ranking.specs.Ranks.{in_turn, rank_front, rank_compared, rank_of}
 use Rattle.verdicts.specs.Verdicts.{well_formed, match_verdict}
 use Rattle.choosing.specs.Choosing.{table, Choice, place, none, all_below, first_failing, best_below, chosen_in}
 
@@ -81,10 +80,10 @@ in_network s a = case (read (distinguished Ipv4 s)) (rule_is (a Ipv4)) ++ case (
 
 -- a rule of pieces and operators, of which so many octets were used; and one of a virtual network
 abbrev rule : List Piece → List Op → ℕ → Reading → Answer ReadRule
-rule ps os used reading = accepts (record { pieces = ps; operators = os; family = family_of reading; distinguisher = Absent; used = used })
+rule ps os used reading = accepts (record { pieces = ps; operators = os; family = family_of reading; distinguisher = None; used = used })
 
 abbrev network_rule : ℕ → List Piece → List Op → ℕ → Reading → Answer ReadRule
-network_rule n ps os used reading = accepts (record { pieces = ps; operators = os; family = family_of reading; distinguisher = Is n; used = used })
+network_rule n ps os used reading = accepts (record { pieces = ps; operators = os; family = family_of reading; distinguisher = Some n; used = used })
 
 -- a refusal at a place
 abbrev refused : ℕ → List ℕ → ℕ → Reading → Answer ReadRule
@@ -247,5 +246,5 @@ abbrev said : Case → Said
 said c = c.says
 
 pub cases_hold : (anyone : Packet) → map (asked anyone) rows ≡ map said rows
-unfolding rows read_at stated_at front_at distinguisher_at is_distinguisher walk_at walk_from component_at typed_at length_at extent_at prefix_at list_at list_from operator_at value_at ops_at ops_from recorded_ops kind_of refused_in spell written_from body_from body_in body_of standard_of length_octets spelled ops_in list_octets piece_octets body_octets all_operators piece_taken all_taken in_order taken_after ends takes narrow all_words tail_words rule_words named is_piece piece_of piece_at pieces_from records_from zeros_from is_framed is_rule rule_at well_formed match_verdict packet_ok numbers_of some_matches piece_matches rule_matches compared masked joined later groups all any list_matches packet from_to flagged to stored lower in_turn rank_front rank_compared rank_of all_below first_failing best_below chosen_in
+unfolding rows read_at stated_at front_at distinguisher_at is_distinguisher walk_at walk_from component_at typed_at length_at extent_at prefix_at list_at list_from operator_at value_at ops_at ops_from recorded_ops kind_of refused_in spell written_from body_from body_in body_of standard_of length_octets spelled ops_in list_octets piece_octets body_octets all_operators piece_taken all_taken in_order taken_after ends takes narrow all_words tail_words rule_words named is_piece piece_of piece_at pieces_from records_from zeros_from is_framed is_rule rule_at well_formed match_verdict packet_ok numbers_of some_matches piece_matches rule_matches compared masked joined later groups all any list_matches packet from_to flagged to stored in_turn rank_front rank_compared rank_of all_below first_failing best_below chosen_in
 cases_hold anyone = refl

@@ -14,13 +14,10 @@
 use Rattle.std.specs.Prelude.{ℕ, ◌+◌, ◌*◌, ◌/◌, ◌%◌, [], ◌∷◌, Bool, false, eqb}
 use Rattle.ground.specs.Answers.{Answer, accepts, refuses}
 use Rattle.ground.specs.Picks.{pick}
-use Rattle.refusals.specs.Refusals.{refusal}
 use Rattle.operators.specs.declared.Kind.{Kind}
 use Rattle.operators.specs.Ops.{reserved_in, limit_by}
 use Rattle.choices.specs.declared.Reading.{Reading}
 use Rattle.choices.specs.declared.Reading.TheVariants.{Plain, Ipv4, Ipv6}
-use Rattle.choices.specs.declared.Standard.{Standard}
-use Rattle.choices.specs.declared.Standard.TheVariants.{Is, Refused}
 
 abbrev pub bound_of : Reading → ℕ → ℕ → ℕ
 bound_of Plain input stated = input
@@ -72,10 +69,6 @@ limit_of Ipv6 kind = 16
 -- "The standard reading (family 4 or 6 given)"; "BadFamily (not 4 or 6)"
 unfoldable pub standard_of : ℕ → Answer Reading
 standard_of family = pick (eqb family 4) (accepts Ipv4) (pick (eqb family 6) (accepts Ipv6) (refuses 11 (family ∷ [])))
-
-abbrev pub told_standard : Standard → Answer Reading
-told_standard (Is reading) = accepts reading
-told_standard (Refused f) = refusal f
 
 -- the family that a rule bears; 0 is a plain rule
 abbrev pub family_of : Reading → ℕ

@@ -2,10 +2,11 @@
 #![tactic(auto)]
 
 ghost use Rattle.std.specs.Prelude.{◌≡◌, ◌<◌, leb};
-ghost use Rattle.choices.specs.Choices.{bound_of, last_type, codes_by, codes_in, limit_of, first_in, front_of, family_of, standard_of, told_standard};
+ghost use Rattle.refusals.specs.Refusals.{answered};
+ghost use Rattle.choices.specs.Choices.{bound_of, last_type, codes_by, codes_in, limit_of, first_in, front_of, family_of, standard_of};
 
 use operators::Kind;
-use refusals::{Fault, FlowSpecError, Place};
+use refusals::{Fault, FlowSpecError};
 
 // The plain reading follows the Rust; the others follow RFC 8955 (IPv4) and RFC 8956 (IPv6).
 #[derive(Clone, Copy)]
@@ -21,8 +22,7 @@ pub fn bound(reading: Reading, input: usize, stated: usize) -> usize
 {
     match reading {
         Reading::Plain => input,
-        Reading::Ipv4 => stated,
-        Reading::Ipv6 => stated,
+        Reading::Ipv4 | Reading::Ipv6 => stated,
     }
 }
 
@@ -32,8 +32,7 @@ pub fn front(reading: Reading, distinguished: bool) -> usize
 {
     match reading {
         Reading::Plain => 0,
-        Reading::Ipv4 => if distinguished { 8 } else { 0 },
-        Reading::Ipv6 => if distinguished { 8 } else { 0 },
+        Reading::Ipv4 | Reading::Ipv6 => if distinguished { 8 } else { 0 },
     }
 }
 
@@ -54,8 +53,7 @@ pub fn codes_by(tag: u8) -> u8
 {
     match tag {
         9 => 2,
-        11 => 1,
-        12 => 1,
+        11 | 12 => 1,
         _ => 4,
     }
 }
@@ -79,8 +77,7 @@ pub fn too_wide(reading: Reading, tag: u8, code: u8) -> bool
 {
     match reading {
         Reading::Plain => false,
-        Reading::Ipv4 => wide(tag, code),
-        Reading::Ipv6 => wide(tag, code),
+        Reading::Ipv4 | Reading::Ipv6 => wide(tag, code),
     }
 }
 
@@ -93,8 +90,7 @@ pub fn limit(reading: Reading, kind: Kind) -> u8
             Kind::Numeric => 8,
             Kind::Bitmask => 4,
         },
-        Reading::Ipv4 => 16,
-        Reading::Ipv6 => 16,
+        Reading::Ipv4 | Reading::Ipv6 => 16,
     }
 }
 
@@ -104,29 +100,23 @@ pub fn first(reading: Reading, octet: u8) -> u8
 {
     match reading {
         Reading::Plain => octet,
-        Reading::Ipv4 => octet / 128 * 128 + octet % 64,
-        Reading::Ipv6 => octet / 128 * 128 + octet % 64,
+        Reading::Ipv4 | Reading::Ipv6 => octet / 128 * 128 + octet % 64,
     }
 }
 
-// The standard reading, or writing, that a family names.
-#[derive(Clone, Copy)]
-pub enum Standard {
-    Is(Reading),
-    Refused(Fault),
-}
+// The standard reading, or writing, that a family names, 4 or 6: this is the one place that says which each has.
+#[tactic(auto, unfolding(crate::specs::Choices::standard_of))]
+impl TryFrom<u8> for Reading {
+    type Error = Fault;
 
-// Family 4 or 6: this is the one place that says which reading each has.
-pub fn reading_of(family: u8) -> Standard
-    ensures { told_standard result ≡ standard_of family }
-{
-    match family {
-        4 => Standard::Is(Reading::Ipv4),
-        6 => Standard::Is(Reading::Ipv6),
-        _ => Standard::Refused(Fault {
-            error: FlowSpecError::BadFamily(family),
-            place: Place::Nowhere,
-        }),
+    ghost try_from_gives = { λ family reading. answered reading ≡ standard_of family };
+
+    fn try_from(family: u8) -> Result<Reading, Fault> {
+        match family {
+            4 => Ok(Reading::Ipv4),
+            6 => Ok(Reading::Ipv6),
+            _ => Err(FlowSpecError::BadFamily(family).into()),
+        }
     }
 }
 

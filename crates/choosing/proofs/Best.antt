@@ -6,16 +6,15 @@ use mathlib.Core.Bool.{Bool, true, false, true≢false}
 use mathlib.Core.Logic.{⊎_elim}
 use native.Mathlib.Omega.{arith}
 use native.Mathlib.Nat.{le_antisymm}
+use Rattle.std.specs.Cmp.{IsTotalOrder}
+use Rattle.std.proofs.lemmas.Cmp.{tied_itself}
 use Rattle.ground.specs.Picks.{pick}
 use Rattle.ground.proofs.Cases.{by_test, lt_or_le}
-use Rattle.ranking.specs.declared.Order.{Order}
-use Rattle.ranking.specs.declared.Order.TheVariants.{Precedes, Equal, Follows}
-use Rattle.ranking.specs.Ranks.{is_before}
-use Rattle.ranking.proofs.Orders.{Ordered, equals_itself}
+use Rattle.ranking.specs.Ranks.{Ordering, Precedes, Equal, Follows, is_before}
 use Rattle.ranking.proofs.Laws.{One, first, neither, second, exactly_one, over, preceded, before_is}
 use Rattle.choosing.specs.Choosing.{Choice, place, none}
 
-module _ (m : ℕ → Bool) (by : ℕ → ℕ → Order) where
+module _ (m : ℕ → Bool) (by : ℕ → ℕ → Ordering) where
   -- what `Named` asks, of the places below a number
   pub record Best (n i : ℕ) : Type 0 where
     pub stored : i < n
@@ -37,9 +36,9 @@ module _ (m : ℕ → Bool) (by : ℕ → ℕ → Order) where
   apart : Equal ≡ Follows → ⊥
   apart e = let z : ◌≡◌ {A = ℕ} 0 1 = cc in omega arith
 
-  module _ (o : Ordered by) where
+  module _ (o : IsTotalOrder by) where
     self : (i : ℕ) → by i i ≡ Precedes → ⊥
-    self i e = true≢false (sym (ap is_before e) ∙ ap is_before (equals_itself by o i))
+    self i e = true≢false (sym (ap is_before e) ∙ ap is_before (tied_itself o i))
 
     -- below a number and the number itself
     below_suc : (P : ℕ → Type 0) (n : ℕ) → ((j : ℕ) → j < n → P j) → P n → (j : ℕ) → j < suc n → P j

@@ -20,15 +20,16 @@ use mathlib.Core.List.{[], ◌∷◌}
 use native.Mathlib.Omega.{arith}
 use borrow.Author.Tests.{lt-ltb, le-ltb, ltb-false}
 use lib.Dec.{ltb}
+use Rattle.std.specs.Prelude.{Option}
+use Rattle.std.specs.Cmp.{IsTotalOrder}
 use Rattle.ground.specs.Picks.{pick}
 use Rattle.ground.specs.Answers.{Answer, accepts, refuses, declines}
 use Rattle.ground.proofs.Answers.{never, same_accepted}
 use Rattle.ground.proofs.Cases.{by_test, lt_or_le, both}
-use Rattle.rules.specs.declared.Distinguisher.{Distinguisher}
 use Rattle.stored.specs.Distinguishers.{same_distinguisher}
 use Rattle.stored.proofs.Distinguishers.{same_is, same_self}
 use Rattle.packets.specs.Packets.{Packet, packet_ok}
-use Rattle.ranking.proofs.Orders.{Ordered, by_key}
+use Rattle.ranking.proofs.Orders.{by_key}
 use Rattle.ranking.proofs.Laws.{Ruled, ranked, rules_ordered}
 use Rattle.choosing.specs.Choosing.{Table, rules_in, whole_rules, held_at, formed_at, family_is, like_first, matches_at, rank_at, Choice, place, none, Decides, Decided, all_below, or_else, first_failing, better, best_below, unless_place, chosen_in}
 use Rattle.choosing.proofs.Passes.{all_below_lem, all_not}
@@ -38,7 +39,7 @@ use Rattle.choosing.proofs.Best.{Answers, better_than, passed_over, taken_in, on
 abbrev held : Table → ℕ → Ruled
 held t i = record { values = t.values; octets = t.octets; rule = held_at t i }
 
-ordered : (t : Table) → Ordered (rank_at t)
+ordered : (t : Table) → IsTotalOrder (rank_at t)
 ordered t = by_key (rank_at t) ranked (held t) rules_ordered (λ x y. refl)
 
 same_better : (t : Table) (p : Packet) (c : Choice) (n : ℕ) → better_than (matches_at t p) (rank_at t) c n ≡ better t c n
@@ -109,12 +110,12 @@ none_fails : (f : ℕ → Bool) (n : ℕ) (c : Choice) → Firsts f n c → ((i 
 none_fails f n (place i) a h = absurd (true≢false (sym (h i a.below) ∙ a.failed))
 none_fails f n none a h = refl
 
-no_first : (f : ℕ → Bool) (n : ℕ) → ((i : ℕ) → i < n → f i ≡ true) → first_failing f n ≡ none
+pub no_first : (f : ℕ → Bool) (n : ℕ) → ((i : ℕ) → i < n → f i ≡ true) → first_failing f n ≡ none
 no_first f n h = none_fails f n (first_failing f n) (firsts f n) h
 
 -- the test of a distinguisher is that it is the same
 alike : (t : Table) (i : ℕ) → (held_at t i).head.distinguisher ≡ (held_at t 0).head.distinguisher → like_first t i ≡ true
-alike t i e = ap (λ (d : Distinguisher). same_distinguisher d (held_at t 0).head.distinguisher) e ∙ same_self (held_at t 0).head.distinguisher
+alike t i e = ap (λ (d : Option ℕ). same_distinguisher d (held_at t 0).head.distinguisher) e ∙ same_self (held_at t 0).head.distinguisher
 
 -- it accepts where the case is demand 3's
 pub accepts_where : (t : Table) (p : Packet) → Fits t p → chosen_in t p ≡ accepts (best_below t p (rules_in t))
@@ -210,7 +211,7 @@ first_is f n i (place j) a h =
     (λ l. ⊎_elim (λ k. absurd (true≢false (sym (a.earlier i k) ∙ h.failed))) (λ k. omega arith) (lt_or_le i j))
     (lt_or_le j i))
 
-the_first : (f : ℕ → Bool) (n i : ℕ) → Fails f n i → first_failing f n ≡ place i
+pub the_first : (f : ℕ → Bool) (n i : ℕ) → Fails f n i → first_failing f n ≡ place i
 the_first f n i h = first_is f n i (first_failing f n) (firsts f n) h
 
 pub refuses_family : (t : Table) (p : Packet) → rules_in t ≤ 64 → packet_ok p ≡ true → whole_rules t ≡ true → ((i : ℕ) → i < rules_in t → formed_at t i ≡ true)

@@ -1,19 +1,19 @@
 -- Which of the stored rules decides on a packet: document 01, "Matching and ranking" and "What comes back"; RFC 8955, 5.1. `Decides` is what
 -- a user asks of the answer, and `chosen_in` the answer itself; `Demand3` in proofs/ says that the one is the other.
 use Rattle.std.specs.Prelude.{ℕ, zero, suc, ◌*◌, ◌/◌, ◌%◌, ◌≤◌, ◌<◌, ◌≡◌, List, [], ◌∷◌, Bool, true, false, not, ◌&&◌, length, ltb, eqb}
+use Rattle.std.specs.declared.option.Option.{Option}
+use Rattle.std.specs.declared.option.Option.TheVariants.{Some, None}
+use Rattle.std.specs.declared.result.Result.{Result}
 use Rattle.ground.specs.Answers.{Answer, accepts, refuses, declines}
 use Rattle.ground.specs.Picks.{pick}
-use Rattle.refusals.specs.Refusals.{refusal}
+use Rattle.refusals.specs.declared.Fault.{Fault}
+use Rattle.refusals.specs.Refusals.{answered_by}
 use Rattle.stored.specs.Distinguishers.{same_distinguisher}
 use Rattle.stored.specs.Stored.{StoredRule, stored_at}
 use Rattle.packets.specs.Packets.{Packet, packet_ok}
 use Rattle.matching.specs.Rules.{rule_matches}
-use Rattle.ranking.specs.declared.Order.{Order}
-use Rattle.ranking.specs.declared.Order.TheVariants.{Precedes, Equal}
-use Rattle.ranking.specs.Ranks.{rank_of, is_before}
+use Rattle.ranking.specs.Ranks.{Ordering, Precedes, Equal, rank_of, is_before}
 use Rattle.verdicts.specs.Verdicts.{well_formed}
-use Rattle.choosing.specs.declared.Chosen.{Chosen}
-use Rattle.choosing.specs.declared.Chosen.TheVariants.{Rule, NoRule, Refused}
 
 -- ---- the table: rules of 64 words one after another, and the lists that hold the operators of all of them
 
@@ -49,7 +49,7 @@ abbrev pub matches_at : Table → Packet → ℕ → Bool
 matches_at t p i = rule_matches t.values t.octets p (held_at t i)
 
 -- what the rule at one place is to the rule at another
-abbrev pub rank_at : Table → ℕ → ℕ → Order
+abbrev pub rank_at : Table → ℕ → ℕ → Ordering
 rank_at t i j = rank_of t.values t.octets (held_at t i) t.values t.octets (held_at t j)
 
 -- ---- demand 3: "the rule we name matches, no other matching rule precedes it by the RFCs' order, of equals the first stored is named, and
@@ -109,10 +109,12 @@ chosen_in t p =
     (unless_place 20 (first_failing (like_first t) (rules_in t)) (accepts (best_below t p (rules_in t)))))))
 
 -- the answer as it is told
-abbrev pub told_chosen : Chosen → Answer Choice
-told_chosen (Rule i) = accepts (place i)
-told_chosen NoRule = accepts none
-told_chosen (Refused f) = refusal f
+abbrev pub choice_of : Option ℕ → Choice
+choice_of (Some i) = place i
+choice_of None = none
+
+abbrev pub told_chosen : Result (Option ℕ) Fault → Answer Choice
+told_chosen = answered_by choice_of
 
 -- an answer that names no refusal decides
 abbrev pub Decided : Table → Packet → Answer Choice → Type 0

@@ -16,9 +16,7 @@ use Rattle.listwriting.proofs.Laws.{taken_ends}
 use Rattle.measuring.specs.Bodies.{Lent, ops_of, prefix_octets, piece_octets, body_octets}
 use Rattle.measuring.specs.Grounds.{piece_taken, all_taken}
 use Rattle.measuring.proofs.Laws.{Standard, octets_prefix, octets_list, body_none, body_more, taken_prefix, taken_none, list_shows, all_more}
-use Rattle.ranking.specs.declared.Order.{Order}
-use Rattle.ranking.specs.declared.Order.TheVariants.{Precedes, Equal, Follows}
-use Rattle.ranking.specs.Ranks.{lower, then_by, in_turn, rank_octets, front_of, rank_prefix, Compared, compared_of, rank_compared, rank}
+use Rattle.ranking.specs.Ranks.{Ordering, Precedes, Equal, Follows, lower, then_by, in_turn, rank_octets, front_of, rank_prefix, Compared, compared_of, rank_compared, rank}
 use Rattle.ranking.proofs.Orders.{never, equal_same, then_first, then_second, then_assoc, then_where}
 use Rattle.ranking.proofs.Laws.{is_prefix, by_type, same_octets, octets_same, equal_length}
 use Rattle.roundtrips.proofs.WrittenComponents.{type_first}
@@ -46,7 +44,7 @@ all_typed (suc n) ws at = (by_type (quad_at ws at), all_typed n ws (at + 4))
 -- ---- two components
 
 -- the types, then what follows them
-by_types : (t u : ℕ) (c z v : Order) → (t ≡ u → v ≡ then_by c z) → then_by (lower t u) v ≡ then_by (then_by (lower t u) c) z
+by_types : (t u : ℕ) (c z v : Ordering) → (t ≡ u → v ≡ then_by c z) → then_by (lower t u) v ≡ then_by (then_by (lower t u) c) z
 by_types t u c z v f = then_where (lower t u) (λ e. f (equal_same t u e)) ∙ sym (then_assoc (lower t u) c z)
 
 module _ (w : Reading) (st : Standard w) (l m : Lent) where
@@ -61,7 +59,7 @@ module _ (w : Reading) (st : Standard w) (l m : Lent) where
     InOrder p q = rank_octets (piece_octets w l p ++ xs) (piece_octets w m q ++ ys) ≡ then_by (rank_compared (one p) (two q)) (rank_octets xs ys)
 
     -- octets after the types
-    typed_order : (t u : ℕ) (ps qs : List ℕ) (c : Order) → (t ≡ u → rank_octets (ps ++ xs) (qs ++ ys) ≡ then_by c (rank_octets xs ys))
+    typed_order : (t u : ℕ) (ps qs : List ℕ) (c : Ordering) → (t ≡ u → rank_octets (ps ++ xs) (qs ++ ys) ≡ then_by c (rank_octets xs ys))
         → rank_octets ((t ∷ ps) ++ xs) ((u ∷ qs) ++ ys) ≡ then_by (then_by (lower t u) c) (rank_octets xs ys)
     unfolding in_turn
     typed_order t u ps qs c f = by_types t u c (rank_octets xs ys) (rank_octets (ps ++ xs) (qs ++ ys)) f
@@ -92,7 +90,7 @@ module _ (w : Reading) (st : Standard w) (l m : Lent) where
 
   -- ---- two bodies
 
-  abbrev ranks : List Piece → List Piece → Order
+  abbrev ranks : List Piece → List Piece → Ordering
   ranks ps qs = rank (map one ps) (map two qs)
 
   -- prefixes of one type that rank equal are of one length, and so are those with the same octets
@@ -197,5 +195,5 @@ module _ (w : Reading) (st : Standard w) (l m : Lent) where
       ∙ sym (first_order p ps q qs t s)
   by_octets (p ∷ ps) (q ∷ qs) t (later e d) =
       let f = firsts_taken p ps q qs t in
-      ap (λ (o : Order). then_by (rank_compared (one p) (two q)) o) (by_octets ps qs f.2 d)
+      ap (λ (o : Ordering). then_by (rank_compared (one p) (two q)) o) (by_octets ps qs f.2 d)
       ∙ sym (first_order p ps q qs t (same_long p q f.0 f.1 [] [] (ap (λ (o : List ℕ). o ++ []) e)))

@@ -20,13 +20,13 @@
 use Prim.Native.Nat.{ℕ}
 use mathlib.Core.Path.{◌≡◌, refl, sym, ◌∙◌, ap, ap₂}
 use mathlib.Core.List.{List, [], ◌∷◌, ◌++◌}
+use Rattle.std.specs.Prelude.{None}
 use Rattle.ground.specs.Answers.{Answer, accepts}
 use Rattle.ground.proofs.Answers.{same_accepted}
 use Rattle.choices.specs.declared.Reading.{Reading}
 use Rattle.choices.specs.Choices.{standard_of}
 use Rattle.octets.specs.Lengths.{length_octets}
 use Rattle.octets.specs.Spell.{spelled}
-use Rattle.rules.specs.declared.Distinguisher.TheVariants.{Absent}
 use Rattle.rules.specs.declared.NetworkPrefix.TheVariants.{Ipv4}
 use Rattle.stored.specs.declared.Piece.TheVariants.{Prefix}
 use Rattle.stored.specs.Distinguishers.{distinguisher_at, is_distinguisher}
@@ -37,9 +37,7 @@ use Rattle.measuring.specs.Grounds.{all_operators, piece_taken, all_taken, in_or
 use Rattle.writing.specs.Writings.{body_from, body_in, nlri_octets, on_accepted, in_room, written_in}
 use Rattle.reading.specs.Readings.{ReadRule, standard_into}
 use Rattle.roundtrips.specs.Trips.{expected, Words}
-use Rattle.ranking.specs.declared.Order.{Order}
-use Rattle.ranking.specs.declared.Order.TheVariants.{Precedes, Equal, Follows}
-use Rattle.ranking.specs.Ranks.{lower, in_turn, rank_octets, rank_front, rank_compared, rank_of}
+use Rattle.ranking.specs.Ranks.{Ordering, Precedes, Equal, Follows, in_turn, rank_octets, rank_front, rank_compared, rank_of}
 use Rattle.ranking.proofs.Laws.{Ruled, One, first, neither, second, one_of_three, through}
 use Rattle.verdicts.specs.Verdicts.{well_formed, rank_verdict}
 use Rattle.equalrank.specs.Pairs.{Lending, pieces_of, lent_of, distinguisher_of, ranked_as, rank_by, written_as, IsFormed, Comparable, Gives, OnePrecedes, first as the_first, second as the_second, SameRule, ByOctets}
@@ -53,7 +51,7 @@ use Rattle.equalrank.proofs.ReadBack.{read_is, same_back}
 pub ranks_where : (a b : Lending) → Comparable a b → ranked_as a b ≡ accepts (rank_by a b)
 ranks_where = ranks_by
 
-pub ranks_only : (a b : Lending) (o : Order) → ranked_as a b ≡ accepts o → Comparable a b
+pub ranks_only : (a b : Lending) (o : Ordering) → ranked_as a b ≡ accepts o → Comparable a b
 ranks_only = ranked_comparable
 
 pub with_room : (a : Lending) → IsFormed a → Gives a
@@ -124,11 +122,11 @@ rank_by_octets a b c room room2 x y e f w i d =
 
 -- "10.0.0.0/16 precedes 11.0.0.0/8, though `01 10` is above `01 08`"
 abbrev one_prefix : ℕ → ℕ → Lending
-one_prefix len address = record { words = rule_words (Prefix 1 (Ipv4 len address) ∷ []) (head 4 0 Absent); values = []; octets = [] }
+one_prefix len address = record { words = rule_words (Prefix 1 (Ipv4 len address) ∷ []) (head 4 0 None); values = []; octets = [] }
 
 pub not_by_octets : (ranked_as (one_prefix 16 167772160) (one_prefix 8 184549376) ≡ accepts Precedes)
     × (written_as (one_prefix 16 167772160) 5 ≡ accepts (4 ∷ 1 ∷ 16 ∷ 10 ∷ 0 ∷ []))
     × (written_as (one_prefix 8 184549376) 4 ≡ accepts (3 ∷ 1 ∷ 8 ∷ 11 ∷ []))
     × (rank_octets (1 ∷ 16 ∷ 10 ∷ 0 ∷ []) (1 ∷ 8 ∷ 11 ∷ []) ≡ Follows)
-unfolding rank_verdict well_formed written_in body_in body_from body_of standard_of length_octets spelled piece_octets body_octets all_operators piece_taken all_taken in_order taken_after all_words tail_words rule_words named is_piece piece_of piece_at pieces_from records_from zeros_from is_framed is_rule rule_at distinguisher_at is_distinguisher lower in_turn rank_front rank_compared rank_of
+unfolding rank_verdict well_formed written_in body_in body_from body_of standard_of length_octets spelled piece_octets body_octets all_operators piece_taken all_taken in_order taken_after all_words tail_words rule_words named is_piece piece_of piece_at pieces_from records_from zeros_from is_framed is_rule rule_at distinguisher_at is_distinguisher in_turn rank_front rank_compared rank_of
 not_by_octets = (refl, refl, refl, refl)

@@ -10,21 +10,21 @@ use borrow.Author.Tests.{eq-eqb, eqb-true, le-ltb}
 use lib.Dec.{eqb, ltb}
 use lib.ListN.{length, drop}
 use lib.Seq.{drop_at}
+use Rattle.std.specs.Prelude.{Option}
 use Rattle.ground.specs.Answers.{Answer, accepts, declines}
 use Rattle.ground.proofs.Answers.{never, same_accepted}
 use Rattle.ground.proofs.Cases.{by_test, lt_or_le}
 use Rattle.octets.specs.Lengths.{length_octets}
 use Rattle.choices.specs.declared.Reading.{Reading}
 use Rattle.choices.specs.Choices.{standard_of}
-use Rattle.rules.specs.declared.Distinguisher.{Distinguisher}
 use Rattle.stored.specs.Distinguishers.{same_distinguisher}
 use Rattle.stored.specs.Stored.{family_at}
 use Rattle.stored.proofs.Distinguishers.{same_is, same_self}
 use Rattle.writing.specs.Writings.{nlri_octets, in_room, on_accepted, written_in}
 use Rattle.writing.proofs.Laws.{short_nlri, long_nlri, Shown, shown, body_named, body_in_lem}
-use Rattle.ranking.specs.declared.Order.{Order}
 use Rattle.verdicts.specs.Verdicts.{accepted, well_formed, rank_verdict}
 use Rattle.equalrank.specs.Pairs.{Lending, distinguisher_of, ranked_as, rank_by, written_as, body_as, IsFormed, Comparable, Gives}
+use Rattle.ranking.specs.Ranks.{Ordering}
 
 -- ---- one rule
 
@@ -104,10 +104,10 @@ module _ (a b : Lending) where
   unfolding rank_verdict
   ranks_by c =
       let d : same_distinguisher (distinguisher_of b) (distinguisher_of a) ≡ true =
-      ap (λ (x : Distinguisher). same_distinguisher (distinguisher_of b) x) c.of_one ∙ same_self (distinguisher_of b) in
+      ap (λ (x : Option ℕ). same_distinguisher (distinguisher_of b) x) c.of_one ∙ same_self (distinguisher_of b) in
       rw (c.formed, c.formed2, eq-eqb (family_at a.words 0) (family_at b.words 0) c.of_family, d)
 
-  pub ranked_comparable : (o : Order) → ranked_as a b ≡ accepts o → Comparable a b
+  pub ranked_comparable : (o : Ordering) → ranked_as a b ≡ accepts o → Comparable a b
   unfolding rank_verdict
   ranked_comparable o e =
       by_test (well_formed a.words a.values a.octets 0)

@@ -12,9 +12,7 @@ use Rattle.operators.specs.declared.Kind.{Kind}
 use Rattle.operators.specs.Ops.{cleared_in, Op, op_octets, list_octets}
 use Rattle.listwriting.specs.Lists.{fits_in, ends}
 use Rattle.listwriting.proofs.Laws.{ends_none, ends_last, ends_more}
-use Rattle.ranking.specs.declared.Order.{Order}
-use Rattle.ranking.specs.declared.Order.TheVariants.{Equal}
-use Rattle.ranking.specs.Ranks.{lower, then_by, in_turn, rank_octets, cut_to, rank_op}
+use Rattle.ranking.specs.Ranks.{Ordering, Equal, lower, then_by, in_turn, rank_octets, cut_to, rank_op}
 use Rattle.ranking.proofs.Orders.{equal_same, then_first, then_assoc, then_none, then_where}
 use Rattle.ranking.proofs.OperatorsInTurn.{operator_then, operators_in_turn}
 use Rattle.roundtrips.proofs.Clearing.{cleared_high}
@@ -57,7 +55,7 @@ module _ (k : Kind) (xs ys : List ℕ) where
   in_turn_lem (o ∷ []) (p ∷ []) d e =
       firsts o p [] []
       ∙ ap₂ (λ (l m : List ℕ). then_by (rank_op k o p) (rank_octets (l ++ xs) (m ++ ys))) (octets_none k) (octets_none k)
-      ∙ ap (λ (q : Order). then_by q (rank_octets xs ys)) (sym (then_none (rank_op k o p)))
+      ∙ ap (λ (q : Ordering). then_by q (rank_octets xs ys)) (sym (then_none (rank_op k o p)))
   in_turn_lem (o ∷ []) (p ∷ j ∷ ps) d e =
       firsts o p [] (j ∷ ps)
       ∙ then_where (rank_op k o p) (λ z. let m = same_mark k o p z in absurd (omega (arith, marked o d, (unmarked p j ps e).0)))
@@ -68,9 +66,9 @@ module _ (k : Kind) (xs ys : List ℕ) where
       ∙ sym (then_assoc (rank_op k o p) (in_turn (rank_op k) (i ∷ os) []) (rank_octets xs ys))
   in_turn_lem (o ∷ i ∷ os) (p ∷ j ∷ ps) d e =
       firsts o p (i ∷ os) (j ∷ ps)
-      ∙ ap (λ (q : Order). then_by (rank_op k o p) q) (in_turn_lem (i ∷ os) (j ∷ ps) (unmarked o i os d).1 (unmarked p j ps e).1)
+      ∙ ap (λ (q : Ordering). then_by (rank_op k o p) q) (in_turn_lem (i ∷ os) (j ∷ ps) (unmarked o i os d).1 (unmarked p j ps e).1)
       ∙ sym (then_assoc (rank_op k o p) (in_turn (rank_op k) (i ∷ os) (j ∷ ps)) (rank_octets xs ys))
 
   pub list_order : (os ps : List Op) → ends os ≡ true → ends ps ≡ true
       → rank_octets (list_octets k os ++ xs) (list_octets k ps ++ ys) ≡ then_by (rank_octets (list_octets k os) (list_octets k ps)) (rank_octets xs ys)
-  list_order os ps d e = in_turn_lem os ps d e ∙ ap (λ (q : Order). then_by q (rank_octets xs ys)) (sym (operators_in_turn k os ps))
+  list_order os ps d e = in_turn_lem os ps d e ∙ ap (λ (q : Ordering). then_by q (rank_octets xs ys)) (sym (operators_in_turn k os ps))

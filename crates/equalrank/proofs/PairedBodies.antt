@@ -3,18 +3,16 @@
 use Prim.Native.Nat.{ℕ}
 use mathlib.Core.Path.{◌≡◌, refl, sym, ◌∙◌, ap, ap₂, subst}
 use mathlib.Core.List.{List, [], ◌∷◌, ◌++◌}
+use Rattle.std.specs.Prelude.{Option}
 use Rattle.ground.specs.Answers.{accepts}
 use Rattle.ground.proofs.Answers.{same_accepted}
 use Rattle.choices.specs.declared.Reading.{Reading}
 use Rattle.choices.specs.Choices.{standard_of}
-use Rattle.rules.specs.declared.Distinguisher.{Distinguisher}
 use Rattle.stored.specs.Stored.{family_at}
 use Rattle.measuring.specs.Bodies.{distinguisher_octets, body_octets, whole_octets}
 use Rattle.measuring.proofs.Laws.{Standard, standard_shows, Taken}
 use Rattle.writing.proofs.Laws.{Shown}
-use Rattle.ranking.specs.declared.Order.{Order}
-use Rattle.ranking.specs.declared.Order.TheVariants.{Equal}
-use Rattle.ranking.specs.Ranks.{then_by, in_turn, rank_octets, rank_of}
+use Rattle.ranking.specs.Ranks.{Ordering, Equal, then_by, in_turn, rank_octets, rank_of}
 use Rattle.ranking.proofs.Orders.{low_equal}
 use Rattle.ranking.proofs.Laws.{same_octets, octets_same}
 use Rattle.equalrank.specs.Pairs.{Lending, pieces_of, lent_of, distinguisher_of, ranked_as, rank_by, body_as, Comparable, ByOctets}
@@ -25,7 +23,7 @@ use Rattle.equalrank.proofs.LentRules.{formed, ranks_by, one_reading}
 pub past_common : (ds xs ys : List ℕ) → rank_octets (ds ++ xs) (ds ++ ys) ≡ rank_octets xs ys
 unfolding in_turn
 past_common [] xs ys = refl
-past_common (d ∷ ds) xs ys = ap (λ (o : Order). then_by o (rank_octets (ds ++ xs) (ds ++ ys))) (low_equal d d refl) ∙ past_common ds xs ys
+past_common (d ∷ ds) xs ys = ap (λ (o : Ordering). then_by o (rank_octets (ds ++ xs) (ds ++ ys))) (low_equal d d refl) ∙ past_common ds xs ys
 
 -- both in one reading, which is standard
 pub record Pair (a b : Lending) : Type 0 where
@@ -56,7 +54,7 @@ pair a b c =
       has = f.has;
       has2 = g.has;
       is = f.shows.is;
-      is2 = s.is ∙ ap (λ (d : Distinguisher). whole_octets w (lent_of b) d (pieces_of b)) (sym c.of_one);
+      is2 = s.is ∙ ap (λ (d : Option ℕ). whole_octets w (lent_of b) d (pieces_of b)) (sym c.of_one);
       taken = f.shows.taken;
       taken2 = s.taken;
     }

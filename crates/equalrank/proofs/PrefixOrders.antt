@@ -9,7 +9,7 @@ use borrow.Author.Tests.{leb-true}
 use lib.Dec.{leb}
 use lib.Pow.{pow-add, pow_pos, shl-shr, shr_lt, shl_lt}
 use Rattle.ground.proofs.Cases.{both}
-use Rattle.wide.specs.Numbers.{num, wide}
+use Rattle.wide.specs.Numbers.{wide}
 use Rattle.octets.specs.Spell.{spelled}
 use Rattle.choices.specs.declared.Reading.{Reading}
 use Rattle.choices.specs.declared.Reading.TheVariants.{Plain, Ipv4, Ipv6}
@@ -23,9 +23,8 @@ use Rattle.prefixwriting.proofs.Inverse.{clean_is}
 use Rattle.measuring.specs.Bodies.{prefix_octets}
 use Rattle.measuring.specs.Grounds.{prefix_taken}
 use Rattle.measuring.proofs.Laws.{Standard}
-use Rattle.ranking.specs.declared.Order.{Order}
 use Rattle.ranking.specs.declared.Front.{Front}
-use Rattle.ranking.specs.Ranks.{lower, then_by, in_turn, rank_octets, leading_bits, front_of, rank_bits, rank_front, rank_prefix}
+use Rattle.ranking.specs.Ranks.{Ordering, lower, then_by, in_turn, rank_octets, leading_bits, front_of, rank_bits, rank_front, rank_prefix}
 use Rattle.ranking.proofs.Orders.{Way, below, equal, above, way, low_below, low_equal, low_above, equal_same, then_assoc, then_none, then_where}
 use Rattle.ranking.proofs.LeadingBits.{first_ipv4}
 use Rattle.ranking.proofs.OperatorsInTurn.{spelled_order}
@@ -43,11 +42,11 @@ bits_order : (k m a b x y : ℕ) → a ≡ x * 2 ^ m → b ≡ y * 2 ^ m → a <
     → rank_octets (spelled k a ++ xs) (spelled k b ++ ys) ≡ then_by (lower x y) (rank_octets xs ys)
 bits_order k m a b x y e f h l xs ys =
     spelled_order k a b xs ys
-    ∙ ap (λ (o : Order). then_by o (rank_octets xs ys)) (ap₂ lower (mod-eq_of_lt h ∙ e) (mod-eq_of_lt l ∙ f) ∙ moved_order x y m (way x y))
+    ∙ ap (λ (o : Ordering). then_by o (rank_octets xs ys)) (ap₂ lower (mod-eq_of_lt h ∙ e) (mod-eq_of_lt l ∙ f) ∙ moved_order x y m (way x y))
 
 -- two prefixes of one length and one offset rank by their bits
 by_bits : (f g : Front) → f.length ≡ g.length
-    → then_by (rank_bits (min f.length g.length) f g) (lower g.length f.length) ≡ lower (leading_bits f.length (num f.address)) (leading_bits f.length (num g.address))
+    → then_by (rank_bits (min f.length g.length) f g) (lower g.length f.length) ≡ lower (leading_bits f.length f.address) (leading_bits f.length g.address)
 by_bits f g l =
     let m : min f.length g.length ≡ f.length = min-eq_left (omega arith) in
     rw (m, low_equal g.length f.length (sym l)) (then_none _)
@@ -79,9 +78,9 @@ unfolding in_turn rank_front
 ipv4_order len a b h c d xs ys =
     let z : rank_prefix (V4 len a) (V4 len b) ≡ lower (a / 2 ^ (32 - len)) (b / 2 ^ (32 - len)) =
     rw (low_equal 0 0 refl) (by_bits (front_of (V4 len a)) (front_of (V4 len b)) refl ∙ ap₂ lower (first_ipv4 a len h) (first_ipv4 b len h)) in
-    ap (λ (o : Order). then_by o (rank_octets (front_octets 32 len a ++ xs) (front_octets 32 len b ++ ys))) (low_equal len len refl)
+    ap (λ (o : Ordering). then_by o (rank_octets (front_octets 32 len a ++ xs) (front_octets 32 len b ++ ys))) (low_equal len len refl)
     ∙ bits_order (octets_of len) (8 * octets_of len - len) _ _ (a / 2 ^ (32 - len)) (b / 2 ^ (32 - len)) (ipv4_bits len a h c) (ipv4_bits len b h d) (ipv4_within len a h c) (ipv4_within len b h d) xs ys
-    ∙ ap (λ (o : Order). then_by o (rank_octets xs ys)) (sym z)
+    ∙ ap (λ (o : Ordering). then_by o (rank_octets xs ys)) (sym z)
 
 -- ---- IPv6
 
@@ -105,13 +104,13 @@ ipv6_order len off off2 h l h2 l2 i c d xs ys =
     let f = front_of (V6Offset len off h l) in
     let g = front_of (V6Offset len off2 h2 l2) in
     let bits = lower (leading_bits len a) (leading_bits len b) in
-    ap (λ (o : Order). then_by o (then_by (lower off off2) (rank_octets (offset_octets len off a ++ xs) (offset_octets len off2 b ++ ys)))) (low_equal len len refl)
+    ap (λ (o : Ordering). then_by o (then_by (lower off off2) (rank_octets (offset_octets len off a ++ xs) (offset_octets len off2 b ++ ys)))) (low_equal len len refl)
     ∙ then_where (lower off off2)
     (λ z. let e = equal_same off off2 z in
     subst (λ (n : ℕ). rank_octets (offset_octets len off a ++ xs) (offset_octets len n b ++ ys) ≡ then_by bits (rank_octets xs ys)) e
     (bits_order (octets_of (len - off)) (8 * octets_of (len - off) - (len - off)) _ _ (leading_bits len a) (leading_bits len b) refl refl (ipv6_within len off a i c)
     (ipv6_within len off b i (subst (λ (n : ℕ). clean 128 len n b ≡ true) (sym e) d)) xs ys)
-    ∙ ap (λ (o : Order). then_by o (rank_octets xs ys)) (sym (by_bits f g refl)))
+    ∙ ap (λ (o : Ordering). then_by o (rank_octets xs ys)) (sym (by_bits f g refl)))
     ∙ sym (then_assoc (lower off off2) (then_by (rank_bits (min len len) f g) (lower len len)) (rank_octets xs ys))
 
 -- ---- what a standard writing takes

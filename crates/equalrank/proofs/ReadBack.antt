@@ -4,11 +4,11 @@ use mathlib.Core.Path.{◌≡◌, sym, ◌∙◌, ap, ap₂}
 use mathlib.Core.List.{List, [], ◌++◌}
 use native.Mathlib.Omega.{arith}
 use lib.ListN.{length}
+use Rattle.std.specs.Prelude.{Option}
 use Rattle.ground.specs.Answers.{accepts}
 use Rattle.ground.proofs.Answers.{same_accepted}
 use Rattle.choices.specs.declared.Reading.{Reading}
 use Rattle.choices.specs.Choices.{family_of}
-use Rattle.rules.specs.declared.Distinguisher.{Distinguisher}
 use Rattle.stored.specs.Stored.{family_at, stored_at}
 use Rattle.stored.proofs.Words.{at_good}
 use Rattle.measuring.proofs.Laws.{standard_shows}
@@ -53,6 +53,6 @@ pub same_back : (a b : Lending) (c : Comparable a b) (ws : Words a.words) (ws2 :
 same_back a b c ws ws2 room room2 xs ys e f q =
     same_accepted
     (sym (read_back a c.formed ws room xs e [])
-    ∙ ap₂ (λ (w : Reading) (d : Distinguisher). read_at w (expected d) (xs ++ [])) (sym (one_reading a b c)) c.of_one
+    ∙ ap₂ (λ (w : Reading) (d : Option ℕ). read_at w (expected d) (xs ++ [])) (sym (one_reading a b c)) c.of_one
     ∙ ap (λ (l : List ℕ). read_at (formed b c.formed2).reading (expected (distinguisher_of b)) (l ++ [])) q
     ∙ read_back b c.formed2 ws2 room2 ys f [])

@@ -1,8 +1,7 @@
 -- Two rules as they are lent: what ranking and the standard writing answer of them, and where they differ first. Document 01, "Matching and ranking".
-use Rattle.std.specs.Prelude.{ℕ, ◌≤◌, ◌≡◌, true, List, [], ◌∷◌, length}
+use Rattle.std.specs.Prelude.{ℕ, ◌≤◌, ◌≡◌, true, List, [], ◌∷◌, length, Option}
 use Rattle.ground.specs.Answers.{Answer, accepts}
 use Rattle.choices.specs.declared.Reading.{Reading}
-use Rattle.rules.specs.declared.Distinguisher.{Distinguisher}
 use Rattle.reading.specs.Readings.{ReadRule}
 use Rattle.stored.specs.declared.Piece.{Piece}
 use Rattle.stored.specs.declared.Piece.TheVariants.{Prefix, Operators, NoRecord}
@@ -10,9 +9,7 @@ use Rattle.stored.specs.Distinguishers.{distinguisher_at}
 use Rattle.stored.specs.Stored.{family_at, first_at, stored_at}
 use Rattle.measuring.specs.Bodies.{Lent, lent, piece_octets}
 use Rattle.writing.specs.Writings.{body_in, written_in}
-use Rattle.ranking.specs.declared.Order.{Order}
-use Rattle.ranking.specs.declared.Order.TheVariants.{Precedes, Follows}
-use Rattle.ranking.specs.Ranks.{front_of, rank_of}
+use Rattle.ranking.specs.Ranks.{Ordering, Precedes, Follows, front_of, rank_of}
 use Rattle.verdicts.specs.Verdicts.{well_formed, rank_verdict}
 
 -- a rule as a caller lends it: its words, and the two lists with its operators
@@ -28,14 +25,14 @@ pieces_of a = (stored_at a.words 0).pieces
 abbrev pub lent_of : Lending → Lent
 lent_of a = lent a.values a.octets (first_at a.words 0)
 
-abbrev pub distinguisher_of : Lending → Distinguisher
+abbrev pub distinguisher_of : Lending → Option ℕ
 distinguisher_of a = distinguisher_at a.words 0
 
 -- what `verdicts::rank` and `krubbadin_rank` answer of two, and the order of the rules that stand in their words
-abbrev pub ranked_as : Lending → Lending → Answer Order
+abbrev pub ranked_as : Lending → Lending → Answer Ordering
 ranked_as a b = rank_verdict a.words a.values a.octets b.words b.values b.octets
 
-abbrev pub rank_by : Lending → Lending → Order
+abbrev pub rank_by : Lending → Lending → Ordering
 rank_by a b = rank_of a.values a.octets (stored_at a.words 0) b.values b.octets (stored_at b.words 0)
 
 -- what `writing::write` and `krubbadin_write` answer and put, told the rule's own family, in so much room; and the body of it, which follows the length

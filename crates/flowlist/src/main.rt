@@ -9,6 +9,7 @@ use std::io;
 use std::io::{Print, Read};
 
 // Reads until the buffer is full or the input ends, and answers how many octets it put at the buffer's start.
+// By hand: without a heap std has only read_exact, which doesn't say how many octets came before the end.
 fn read_full<R: Read>(reader: &mut R, buffer: &mut [u8]) -> io::Result<usize>
     ensures { IfOk result (λ n. n ≤ length buffer.new) }
 {

@@ -16,11 +16,13 @@ use Rattle.refusals.specs.declared.FlowSpecError.{FlowSpecError}
 use Rattle.refusals.specs.declared.FlowSpecError.TheVariants.{InsufficientData, InvalidComponentOrder, InvalidComponentType, InvalidPrefix, InvalidOperator, InvalidValueLength, ValueTooLarge, InputTooLong, NoRoom, BadRecord, BadFamily, TooManyRules, BadPacket, MixedFamily, Outer}
 use Rattle.refusals.specs.declared.OuterError.{OuterError}
 use Rattle.refusals.specs.declared.OuterError.TheVariants.{BadAttribute, ShortPacket, BadHeader, TooManyHeaders, ShortDistinguisher, MixedDistinguisher, TableFull, NotStored, BadLine, NoOldForm, UnknownAction, BadRate, PastEnd}
-use Rattle.refusals.specs.Refusals.{number_of, outer_number}
+use Rattle.refusals.specs.Refusals.{answered, number_of, outer_number}
 use Rattle.choices.specs.declared.Reading.{Reading}
-use Rattle.reading.specs.declared.ReadInto.{ReadInto}
-use Rattle.reading.specs.declared.ReadInto.TheVariants.{Read, Refused}
-use Rattle.reading.specs.Readings.{ReadRule, read_at, shorter, roomed, read_into, by_reading, told_into, taken, taken_of, operators_of}
+use Rattle.std.specs.declared.result.Result.{Result}
+use Rattle.std.specs.declared.result.Result.TheVariants.{Ok, Err}
+use Rattle.refusals.specs.declared.Fault.{Fault}
+use Rattle.reading.specs.declared.Taken.{Taken}
+use Rattle.reading.specs.Readings.{ReadRule, read_at, shorter, roomed, read_into, by_reading, taken, taken_of, operators_of}
 use Rattle.reading.specs.Parts.{is_read}
 use Rattle.krubbadin.specs.declared.KrubbadinAnswer.{KrubbadinAnswer}
 use Rattle.krubbadin.specs.Surface.{read_answer, by_check}
@@ -64,10 +66,10 @@ refusal_in (accepts r) = refused 0 [] nowhere
 refusal_in (declines f) = f
 
 -- what is told of a reading has status 0 just where it is accepted
-pub sure : (x : ReadInto) (d : Answer ReadRule) → told_into x ≡ taken_of d → (read_answer (told_into x)).status ≡ 0 → is_read d ≡ true
-sure (Read used operators) (accepts r) e z = refl
-sure (Read used operators) (declines f) e z = never (sym e)
-sure (Refused f) d e z = absurd (numbered f.error z)
+pub sure : (x : Result Taken Fault) (d : Answer ReadRule) → answered x ≡ taken_of d → (read_answer (answered x)).status ≡ 0 → is_read d ≡ true
+sure (Ok t) (accepts r) e z = refl
+sure (Ok t) (declines f) e z = never (sym e)
+sure (Err f) d e z = absurd (numbered f.error z)
 
 -- what status 0 tells of it
 pub told_taken : (a : KrubbadinAnswer) (d : Answer ReadRule) → a ≡ read_answer (taken_of d) → is_read d ≡ true → accepts (taken a.first a.second) ≡ taken_of d

@@ -8,7 +8,8 @@ use native.Mathlib.Omega.{arith}
 use lib.ListN.{get_or}
 use Rattle.ground.specs.Answers.{Place, nowhere, at_octet, Refused, Answer, accepts, declines, unplaced}
 use Rattle.choices.specs.declared.Reading.{Reading}
-use Rattle.reading.specs.Readings.{read_at, Taken}
+use Rattle.reading.specs.declared.Taken.{Taken}
+use Rattle.reading.specs.Readings.{read_at}
 use Rattle.reading.proofs.Places.{place_most}
 use Rattle.krubbadin.specs.declared.KrubbadinAnswer.{KrubbadinAnswer}
 use Rattle.krubbadin.specs.Surface.{place_number, read_answer}

@@ -1,6 +1,6 @@
 -- What a reading or a writing leaves behind, told of the one that a number names.
-use mathlib.Core.Path.{◌≡◌, refl, sym, ap, subst, ◌∙◌}
-use mathlib.Core.Bool.{Bool, true}
+use mathlib.Core.Path.{◌≡◌, refl, sym, ap, ◌∙◌}
+use mathlib.Core.Bool.{Bool}
 use mathlib.Core.List.{List, map}
 use Prim.Native.Nat.{ℕ}
 use lib.ListN.{length}
@@ -9,12 +9,10 @@ use Rattle.ground.specs.Answers.{Answer, accepts, declines}
 use Rattle.choices.specs.declared.Reading.{Reading}
 use Rattle.operators.specs.Ops.{octet_of, number_of}
 use Rattle.reading.specs.Readings.{read_at, by_reading, taken_of, words_of, operators_of}
-use Rattle.reading.specs.Parts.{is_read}
-use Rattle.writing.specs.Writings.{counted, octets_in}
 use Rattle.reading.proofs.Ways.{test_refused}
 use Rattle.krubbadin.proofs.Checks.{told_refused}
 use Rattle.krubbadin.specs.declared.KrubbadinAnswer.{KrubbadinAnswer}
-use Rattle.krubbadin.specs.Surface.{read_answer, by_check, written_answer, by_writing}
+use Rattle.krubbadin.specs.Surface.{read_answer, by_check}
 
 abbrev pub Post : Bool → List ℕ → List ℕ → List ℕ → List ℕ → KrubbadinAnswer → List ℕ → List ℕ → List ℕ → Answer Reading → Type 0
 Post rd s ws vs os r ws' vs' os' a =
@@ -23,9 +21,6 @@ Post rd s ws vs os r ws' vs' os' a =
     × ((vs' ≡ sets vs 0 (map number_of (operators_of (by_reading a rd s (length ws) (length vs) (length os)))))
     × (os' ≡ sets os 0 (map octet_of (operators_of (by_reading a rd s (length ws) (length vs) (length os)))))))
 
-pub named : (rd : Bool) (s ws vs os : List ℕ) {r : KrubbadinAnswer} {ws' vs' os' : List ℕ} {a b : Answer Reading} → a ≡ b → Post rd s ws vs os r ws' vs' os' a → Post rd s ws vs os r ws' vs' os' b
-named rd s ws vs os {r} {ws'} {vs'} {os'} e p = subst (λ (x : Answer Reading). Post rd s ws vs os r ws' vs' os' x) e p
-
 -- what a check refuses, a reading does, and leaves everything as it came
 pub refused_check : (rd : Bool) (s ws vs os : List ℕ) (r : KrubbadinAnswer) (a : Answer Reading) → r ≡ read_answer (taken_of (by_check a rd s)) → (r.status ≡ 0 → ⊥) → Post rd s ws vs os r ws vs os a
 refused_check rd s ws vs os r (accepts reading) e z =
@@ -33,17 +28,3 @@ refused_check rd s ws vs os r (accepts reading) e z =
     let p = test_refused reading rd s ws vs os q in
     (e ∙ sym (ap read_answer q) ∙ ap read_answer p.0, p.1)
 refused_check rd s ws vs os r (declines f) e z = (e, (refl, (refl, refl)))
-
--- and a check
-abbrev pub Checked : Bool → List ℕ → KrubbadinAnswer → Answer Reading → Type 0
-Checked rd s r a = (r ≡ read_answer (taken_of (by_check a rd s))) × (r.status ≡ 0 → is_read (by_check a rd s) ≡ true)
-
-pub named_check : (rd : Bool) (s : List ℕ) {r : KrubbadinAnswer} {a b : Answer Reading} → a ≡ b → Checked rd s r a → Checked rd s r b
-named_check rd s {r} e p = subst (λ (x : Answer Reading). Checked rd s r x) e p
-
-abbrev pub Wrote : List ℕ → List ℕ → List ℕ → List ℕ → KrubbadinAnswer → List ℕ → Answer Reading → Type 0
-Wrote ws vs os out r out' a =
-    (r ≡ written_answer (counted (by_writing a ws vs os (length out)))) × (out' ≡ sets out 0 (octets_in (by_writing a ws vs os (length out))))
-
-pub named_writing : (ws vs os out : List ℕ) {r : KrubbadinAnswer} {out' : List ℕ} {a b : Answer Reading} → a ≡ b → Wrote ws vs os out r out' a → Wrote ws vs os out r out' b
-named_writing ws vs os out {r} {out'} e p = subst (λ (x : Answer Reading). Wrote ws vs os out r out' x) e p

@@ -9,10 +9,10 @@
 use Prim.Native.Nat.{ℕ, ◌<◌}
 use mathlib.Core.Path.{◌≡◌, refl}
 use mathlib.Core.List.{List, ◌++◌}
+use Rattle.std.specs.Prelude.{Option}
 use Rattle.ground.specs.Answers.{accepts}
 use Rattle.choices.specs.declared.Reading.{Reading}
 use Rattle.choices.specs.declared.Reading.TheVariants.{Plain}
-use Rattle.rules.specs.declared.Distinguisher.{Distinguisher}
 use Rattle.stored.specs.Stored.{StoredRule, stored_rule, head}
 use Rattle.measuring.specs.Bodies.{lent, distinguisher_octets, body_octets}
 use Rattle.measuring.specs.Grounds.{body_of}
@@ -27,7 +27,7 @@ pub use Rattle.reading.proofs.Distinguishers.{plain_knows_none, short_only, shor
 pub use Rattle.choosing.proofs.Demand3.{refuses_family, refuses_distinguisher}
 
 -- a rule under another distinguisher, or under none
-abbrev pub under : Distinguisher → StoredRule → StoredRule
+abbrev pub under : Option ℕ → StoredRule → StoredRule
 under d s = stored_rule s.pieces (head s.head.family s.head.first d)
 
 -- ---- writing
@@ -36,17 +36,17 @@ pub written_before : (w : Reading) (s : StoredRule) (values octets body : List �
     → body ≡ distinguisher_octets w s.head.distinguisher ++ body_octets w (lent values octets s.head.first) s.pieces
 written_before w s values octets body e = (body_shows w (lent values octets s.head.first) s.pieces s.head.distinguisher body e).1
 
-pub plain_writes_none : (d : Distinguisher) (s : StoredRule) (values octets : List ℕ) (room : ℕ) → written_rule Plain (under d s) values octets room ≡ written_rule Plain s values octets room
+pub plain_writes_none : (d : Option ℕ) (s : StoredRule) (values octets : List ℕ) (room : ℕ) → written_rule Plain (under d s) values octets room ≡ written_rule Plain s values octets room
 unfolding written_rule body_of
 plain_writes_none d s values octets room = refl
 
 -- ---- deciding
 
-pub matches_alike : (d : Distinguisher) (s : StoredRule) (values octets : List ℕ) (p : Packet) → rule_matches values octets p (under d s) ≡ rule_matches values octets p s
+pub matches_alike : (d : Option ℕ) (s : StoredRule) (values octets : List ℕ) (p : Packet) → rule_matches values octets p (under d s) ≡ rule_matches values octets p s
 unfolding rule_matches
 matches_alike d s values octets p = refl
 
-pub ranks_alike : (d e : Distinguisher) (r s : StoredRule) (values octets values2 octets2 : List ℕ) → rank_of values octets (under d r) values2 octets2 (under e s) ≡ rank_of values octets r values2 octets2 s
+pub ranks_alike : (d e : Option ℕ) (r s : StoredRule) (values octets values2 octets2 : List ℕ) → rank_of values octets (under d r) values2 octets2 (under e s) ≡ rank_of values octets r values2 octets2 s
 unfolding rank_of
 ranks_alike d e r s values octets values2 octets2 = refl
 

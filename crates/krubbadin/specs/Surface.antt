@@ -5,7 +5,8 @@ use Rattle.ground.specs.Answers.{Place, nowhere, at_octet, Refused, Answer, acce
 use Rattle.ground.specs.Picks.{pick}
 use Rattle.choices.specs.declared.Reading.{Reading}
 use Rattle.choices.specs.declared.Reading.TheVariants.{Plain}
-use Rattle.reading.specs.Readings.{ReadRule, Taken, read_at}
+use Rattle.reading.specs.declared.Taken.{Taken}
+use Rattle.reading.specs.Readings.{ReadRule, read_at}
 use Rattle.choices.specs.Choices.{standard_of}
 use Rattle.writing.specs.Writings.{written_from}
 use Rattle.krubbadin.specs.declared.KrubbadinAnswer.{KrubbadinAnswer}

@@ -1,40 +1,21 @@
 // Rules that are stored: whether a packet satisfies one, which of two precedes, and which of many decides. A packet is 20 words.
 ghost use Rattle.std.specs.Prelude.{◌≡◌};
-ghost use Rattle.operators.specs.Operators.{weight_of};
 ghost use Rattle.packets.specs.Packets.{packet_at};
-ghost use Rattle.verdicts.specs.Verdicts.{match_verdict, rank_verdict, told_matched, told_ranked};
+ghost use Rattle.refusals.specs.Refusals.{answered};
+ghost use Rattle.verdicts.specs.Verdicts.{match_verdict, rank_verdict};
 ghost use Rattle.choosing.specs.Choosing.{table, chosen_in, told_chosen};
-ghost use Rattle.krubbadin.specs.Surface.{given_with};
 ghost use Rattle.krubbadin.specs.Deciding.{order_number, match_answer, rank_answer, choice_answer};
 
-use crate::KrubbadinAnswer;
-use choosing::Chosen;
-use ranking::Order;
-use verdicts::{Matched, Ranked};
+use crate::{KrubbadinAnswer, given};
+use refusals::Fault;
+use std::cmp::Ordering;
 
-fn given(first: u64, second: u64) -> KrubbadinAnswer
-    ensures { result ≡ given_with first second }
-{
-    KrubbadinAnswer {
-        status: 0,
-        first: first,
-        second: second,
-        place: crate::NOWHERE,
-    }
-}
-
-fn truth(b: bool) -> u64
-    ensures { result ≡ weight_of b 1 }
-{
-    if b { 1 } else { 0 }
-}
-
-fn match_answer(r: Matched) -> KrubbadinAnswer
-    ensures { result ≡ match_answer (told_matched r) }
+fn match_answer(r: Result<bool, Fault>) -> KrubbadinAnswer
+    ensures { result ≡ match_answer (answered r) }
 {
     match r {
-        Matched::Is(b) => given(truth(b), 0),
-        Matched::Refused(fault) => crate::refused(fault),
+        Ok(b) => given(u64::from(b), 0),
+        Err(fault) => fault.into(),
     }
 }
 
@@ -51,22 +32,22 @@ pub extern "C" fn krubbadin_match(
     match_answer(verdicts::matches(words, values, octets, packet))
 }
 
-fn order_number(order: Order) -> u64
+fn order_number(order: Ordering) -> u64
     ensures { result ≡ order_number order }
 {
     match order {
-        Order::Equal => 0,
-        Order::Precedes => 1,
-        Order::Follows => 2,
+        Ordering::Equal => 0,
+        Ordering::Less => 1,
+        Ordering::Greater => 2,
     }
 }
 
-fn rank_answer(r: Ranked) -> KrubbadinAnswer
-    ensures { result ≡ rank_answer (told_ranked r) }
+fn rank_answer(r: Result<Ordering, Fault>) -> KrubbadinAnswer
+    ensures { result ≡ rank_answer (answered r) }
 {
     match r {
-        Ranked::Is(order) => given(order_number(order), 0),
-        Ranked::Refused(fault) => crate::refused(fault),
+        Ok(order) => given(order_number(order), 0),
+        Err(fault) => fault.into(),
     }
 }
 
@@ -85,13 +66,13 @@ pub extern "C" fn krubbadin_rank(
     rank_answer(verdicts::rank(words, values, octets, words2, values2, octets2))
 }
 
-fn choice_answer(r: Chosen) -> KrubbadinAnswer
+fn choice_answer(r: Result<Option<usize>, Fault>) -> KrubbadinAnswer
     ensures { result ≡ choice_answer (told_chosen r) }
 {
     match r {
-        Chosen::Rule(place) => given(1, place as u64),
-        Chosen::NoRule => given(0, 0),
-        Chosen::Refused(fault) => crate::refused(fault),
+        Ok(Some(place)) => given(1, place as u64),
+        Ok(None) => given(0, 0),
+        Err(fault) => fault.into(),
     }
 }
 

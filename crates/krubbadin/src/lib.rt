@@ -5,18 +5,17 @@
 ghost use Rattle.std.specs.Prelude.{◌≡◌, true, map, length};
 ghost use Rattle.std.proofs.lemmas.List.Edits.{sets};
 ghost use Rattle.operators.specs.Ops.{octet_of, number_of};
-ghost use Rattle.choices.specs.Choices.{expects, told_standard};
-ghost use Rattle.refusals.specs.Refusals.{told, place_of};
-ghost use Rattle.reading.specs.Readings.{told_into, read_at, read_into, by_reading, taken_of, words_of, operators_of};
+ghost use Rattle.choices.specs.Choices.{expects};
+ghost use Rattle.refusals.specs.Refusals.{answered, told, place_of};
+ghost use Rattle.reading.specs.Readings.{read_at, read_into, by_reading, taken_of, words_of, operators_of};
 ghost use Rattle.measuring.specs.Grounds.{counted};
-ghost use Rattle.writing.specs.Writings.{told_written, octets_in};
+ghost use Rattle.writing.specs.Writings.{octets_in};
 ghost use Rattle.reading.specs.Parts.{is_read};
-ghost use Rattle.krubbadin.specs.Surface.{place_number, refused_with, read_answer, which_of, by_check, written_answer, by_writing};
+ghost use Rattle.krubbadin.specs.Surface.{place_number, given_with, refused_with, read_answer, which_of, by_check, written_answer, by_writing};
 
-use choices::{Reading, Standard};
-use reading::ReadInto;
-use refusals::{Fault, Place};
-use writing::Written;
+use choices::Reading;
+use reading::Taken;
+use refusals::{Fault, Numbers};
 
 mod deciding;
 mod single;
@@ -35,51 +34,64 @@ pub struct KrubbadinAnswer {
 // The place of an answer that has none: all ones. No place in an input is as large.
 const NOWHERE: u64 = 0xFFFF_FFFF_FFFF_FFFF;
 
-fn place_number(place: Place) -> u64
+fn place_number(place: Option<usize>) -> u64
     ensures { result ≡ place_number (place_of place) }
 {
     match place {
-        Place::Nowhere => NOWHERE,
-        Place::Octet(at) => at as u64,
+        None => NOWHERE,
+        Some(at) => at as u64,
     }
 }
 
-fn refused(fault: Fault) -> KrubbadinAnswer
-    ensures { result ≡ refused_with (told fault) }
+fn given(first: u64, second: u64) -> KrubbadinAnswer
+    ensures { result ≡ given_with first second }
 {
-    let error = fault.error;
-    let place = fault.place;
-    let n = refusals::numbered(error);
     KrubbadinAnswer {
-        status: n.number as u64,
-        first: n.first,
-        second: n.second,
-        place: place_number(place),
+        status: 0,
+        first,
+        second,
+        place: NOWHERE,
     }
 }
 
-fn read_answer(r: ReadInto) -> KrubbadinAnswer
-    ensures { result ≡ read_answer (told_into r) }
+impl From<Fault> for KrubbadinAnswer {
+    ghost from_gives = { λ fault answer. answer ≡ refused_with (told fault) };
+
+    fn from(fault: Fault) -> KrubbadinAnswer {
+        let Fault { place, error } = fault;
+        let Numbers {
+            number,
+            first,
+            second,
+            ..
+        } = error.into();
+        KrubbadinAnswer {
+            status: number as u64,
+            first,
+            second,
+            place: place_number(place),
+        }
+    }
+}
+
+fn read_answer(read: Result<Taken, Fault>) -> KrubbadinAnswer
+    ensures { result ≡ read_answer (answered read) }
 {
-    match r {
-        ReadInto::Read { used, operators } => KrubbadinAnswer {
-            status: 0,
-            first: used as u64,
-            second: operators as u64,
-            place: NOWHERE,
-        },
-        ReadInto::Refused(fault) => refused(fault),
+    match read {
+        Ok(Taken { used, operators }) => given(used as u64, operators as u64),
+        Err(fault) => fault.into(),
     }
 }
 
 // The reading, or the writing, that a call asks for.
-fn named_by(standard: u8, family: u8) -> Standard
-    ensures { told_standard result ≡ which_of standard family }
+#[tactic(auto, unfolding(crate::specs::Surface::which_of))]
+fn named_by(standard: u8, family: u8) -> Result<Reading, Fault>
+    ensures { answered result ≡ which_of standard family }
 {
     if standard == 0 {
-        return Standard::Is(Reading::Plain);
+        return Ok(Reading::Plain);
     }
-    choices::reading_of(family)
+    family.try_into()
 }
 
 // Whether an NLRI would be read: the octets used and the operators that a reading with room for all would fill, or that reading's refusal. Nothing is
@@ -90,8 +102,8 @@ pub extern "C" fn krubbadin_check(standard: u8, family: u8, input: &[u8]) -> Kru
     ensures sure { result.status ≡ 0 → is_read (by_check (which_of standard family) (expects standard) input.now) ≡ true }
 {
     match named_by(standard, family) {
-        Standard::Is(reading) => read_answer(reading::test(reading, standard, input)),
-        Standard::Refused(fault) => refused(fault),
+        Ok(reading) => read_answer(reading::test(reading, standard, input)),
+        Err(fault) => fault.into(),
     }
 }
 
@@ -118,7 +130,7 @@ fn store_checked(
         values.len(),
         octets.len(),
     );
-    if lack != 0 {
+    if let Some(lack) = lack {
         return KrubbadinAnswer {
             status: 9,
             first: lack as u64,
@@ -136,12 +148,7 @@ fn store_checked(
         octets,
         0,
     );
-    KrubbadinAnswer {
-        status: 0,
-        first: checked.first,
-        second: checked.second,
-        place: NOWHERE,
-    }
+    given(checked.first, checked.second)
 }
 
 // Reads an NLRI: its rule to the first 64 words, its operators to the two lists. With `standard` 0 it is the
@@ -166,24 +173,17 @@ pub extern "C" fn krubbadin_read(
         return checked;
     }
     match named_by(standard, family) {
-        Standard::Is(reading) => store_checked(
-            reading, standard, input, checked, words, values, octets,
-        ),
-        Standard::Refused(fault) => refused(fault),
+        Ok(reading) => store_checked(reading, standard, input, checked, words, values, octets),
+        Err(fault) => fault.into(),
     }
 }
 
-fn write_answer(r: Written) -> KrubbadinAnswer
-    ensures { result ≡ written_answer (told_written r) }
+fn write_answer(written: Result<usize, Fault>) -> KrubbadinAnswer
+    ensures { result ≡ written_answer (answered written) }
 {
-    match r {
-        Written::Octets(n) => KrubbadinAnswer {
-            status: 0,
-            first: n as u64,
-            second: 0,
-            place: NOWHERE,
-        },
-        Written::Refused(fault) => refused(fault),
+    match written {
+        Ok(octets) => given(octets as u64, 0),
+        Err(fault) => fault.into(),
     }
 }
 
@@ -202,9 +202,7 @@ pub extern "C" fn krubbadin_write(
     ensures out { out.new ≡ sets out.old 0 (octets_in (by_writing (which_of standard family) words.now values.now octets.now (length out.old))) }
 {
     match named_by(standard, family) {
-        Standard::Is(writing) => write_answer(writing::write_from(
-            writing, words, values, octets, out,
-        )),
-        Standard::Refused(fault) => refused(fault),
+        Ok(writing) => write_answer(writing::write_from(writing, words, values, octets, out)),
+        Err(fault) => fault.into(),
     }
 }

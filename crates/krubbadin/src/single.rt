@@ -1,12 +1,12 @@
 // One operator by itself: its octet and value as a record, the octet of a record, and the constructors.
 ghost use Rattle.std.specs.Prelude.{◌≡◌, ◌≤◌};
-ghost use Rattle.refusals.specs.Refusals.{number_of, carried_of};
-ghost use Rattle.operators.specs.Operators.{numeric_told, bitmask_told, octet_told, weight_of};
+ghost use Rattle.refusals.specs.Refusals.{answered, number_of, carried_of};
+ghost use Rattle.operators.specs.Operators.{weight_of};
 ghost use Rattle.krubbadin.specs.Single.{numeric_numbers, bitmask_numbers, numeric_answer, bitmask_answer, octet_answer, operator_read, is_record, record_octet, operator_written, operator_made, no_operator};
 
-use crate::KrubbadinAnswer;
-use operators::{BitmaskOperator, BitmaskRead, NumericOperator, NumericRead, OctetMade};
-use refusals::{Fault, FlowSpecError, Place};
+use crate::{KrubbadinAnswer, given};
+use operators::{BitmaskOperator, NumericOperator};
+use refusals::{Fault, FlowSpecError, Numbers};
 
 // An operator record, 1 where a flag is set. `flags` are numeric 4 less, 2 greater, 1 equal; bitmask 2 NOT, 1 match. Where `status` is a
 // refusal's number, `carried` is what it carries and all else is 0.
@@ -29,19 +29,20 @@ fn weight(set: bool, n: u64) -> u64
     if set { n } else { 0 }
 }
 
-fn no_operator(fault: Fault) -> KrubbadinOperator
-    ensures { result ≡ no_operator (number_of fault.error) (carried_of fault.error) }
-{
-    let error = fault.error;
-    let n = refusals::numbered(error);
-    KrubbadinOperator {
-        status: n.number as u64,
-        carried: n.first,
-        end_of_list: 0,
-        and_with_next: 0,
-        value_length: 0,
-        flags: 0,
-        value: 0,
+impl From<FlowSpecError> for KrubbadinOperator {
+    ghost from_gives = { λ error answer. answer ≡ no_operator (number_of error) (carried_of error) };
+
+    fn from(error: FlowSpecError) -> KrubbadinOperator {
+        let Numbers { number, first, .. } = error.into();
+        KrubbadinOperator {
+            status: number as u64,
+            carried: first,
+            end_of_list: 0,
+            and_with_next: 0,
+            value_length: 0,
+            flags: 0,
+            value: 0,
+        }
     }
 }
 
@@ -73,26 +74,27 @@ fn bitmask_numbers(o: BitmaskOperator) -> KrubbadinOperator
     }
 }
 
-fn numeric_answer(r: NumericRead) -> KrubbadinOperator
-    ensures { result ≡ numeric_answer (numeric_told r) }
+fn numeric_answer(read: Result<NumericOperator, Fault>) -> KrubbadinOperator
+    ensures { result ≡ numeric_answer (answered read) }
 {
-    match r {
-        NumericRead::Operator(o) => numeric_numbers(o),
-        NumericRead::Refused(fault) => no_operator(fault),
+    match read {
+        Ok(o) => numeric_numbers(o),
+        Err(fault) => fault.error.into(),
     }
 }
 
-fn bitmask_answer(r: BitmaskRead) -> KrubbadinOperator
-    ensures { result ≡ bitmask_answer (bitmask_told r) }
+fn bitmask_answer(read: Result<BitmaskOperator, Fault>) -> KrubbadinOperator
+    ensures { result ≡ bitmask_answer (answered read) }
 {
-    match r {
-        BitmaskRead::Operator(o) => bitmask_numbers(o),
-        BitmaskRead::Refused(fault) => no_operator(fault),
+    match read {
+        Ok(o) => bitmask_numbers(o),
+        Err(fault) => fault.error.into(),
     }
 }
 
 // The record of an octet and its value: numeric with `bitmask` 0, else bitmask.
 #[unsafe(no_mangle)]
+#[tactic(auto, unfolding(crate::specs::Single::operator_read))]
 pub extern "C" fn krubbadin_operator_read(bitmask: u8, octet: u8, value: u64) -> KrubbadinOperator
     ensures { result ≡ operator_read bitmask octet value }
 {
@@ -102,32 +104,27 @@ pub extern "C" fn krubbadin_operator_read(bitmask: u8, octet: u8, value: u64) ->
     bitmask_answer(BitmaskOperator::from_byte_and_value(octet, value))
 }
 
-fn octet_answer(r: OctetMade) -> KrubbadinAnswer
-    ensures { result ≡ octet_answer (octet_told r) }
+fn octet_answer(made: Result<u8, Fault>) -> KrubbadinAnswer
+    ensures { result ≡ octet_answer (answered made) }
 {
-    match r {
-        OctetMade::Octet(octet) => KrubbadinAnswer {
-            status: 0,
-            first: octet as u64,
-            second: 0,
-            place: crate::NOWHERE,
-        },
-        OctetMade::Refused(fault) => crate::refused(fault),
+    match made {
+        Ok(octet) => given(octet as u64, 0),
+        Err(fault) => fault.into(),
     }
 }
 
 // Whether numbers are those of a record, its width aside.
+#[tactic(auto, unfolding(crate::specs::Single::is_record))]
 fn is_record(bitmask: u8, end: u8, also: u8, flags: u8) -> bool
     ensures { result ≡ is_record bitmask end also flags }
 {
-    if bitmask == 0 {
-        return (end <= 1) & (also <= 1) & (flags <= 7);
-    }
-    (end <= 1) & (also <= 1) & (flags <= 3)
+    let most = if bitmask == 0 { 7 } else { 3 };
+    end <= 1 && also <= 1 && flags <= most
 }
 
-fn record_octet(bitmask: u8, end: u8, also: u8, width: u8, flags: u8) -> OctetMade
-    ensures { octet_told result ≡ record_octet bitmask end also width flags }
+#[tactic(auto, unfolding(crate::specs::Single::record_octet))]
+fn record_octet(bitmask: u8, end: u8, also: u8, width: u8, flags: u8) -> Result<u8, Fault>
+    ensures { answered result ≡ record_octet bitmask end also width flags }
 {
     if bitmask == 0 {
         return NumericOperator {
@@ -154,6 +151,7 @@ fn record_octet(bitmask: u8, end: u8, also: u8, width: u8, flags: u8) -> OctetMa
 
 // The octet of a record. Numbers that no record has are BadRecord.
 #[unsafe(no_mangle)]
+#[tactic(auto, unfolding(crate::specs::Single::operator_written))]
 pub extern "C" fn krubbadin_operator_write(
     bitmask: u8,
     end: u8,
@@ -177,6 +175,7 @@ pub extern "C" fn krubbadin_operator_write(
 // An operator that stands alone, by one of the constructors: 0 equal_to, 1 greater_than_or_equal, 2 exact_match, 3 partial_match. There is
 // no other: BadRecord.
 #[unsafe(no_mangle)]
+#[tactic(auto, unfolding(crate::specs::Single::operator_made))]
 pub extern "C" fn krubbadin_operator_make(which: u8, value: u64) -> KrubbadinOperator
     ensures { result ≡ operator_made which value }
 {
@@ -185,9 +184,6 @@ pub extern "C" fn krubbadin_operator_make(which: u8, value: u64) -> KrubbadinOpe
         1 => numeric_numbers(NumericOperator::greater_than_or_equal(value)),
         2 => bitmask_numbers(BitmaskOperator::exact_match(value)),
         3 => bitmask_numbers(BitmaskOperator::partial_match(value)),
-        _ => no_operator(Fault {
-            error: FlowSpecError::BadRecord,
-            place: Place::Nowhere,
-        }),
+        _ => FlowSpecError::BadRecord.into(),
     }
 }

@@ -9,10 +9,11 @@ use native.Mathlib.Omega.{arith}
 use borrow.Author.Tests.{lt-ltb, le-ltb}
 use lib.ListN.{length, get_or, set, take, replicate, length-map, length-replicate}
 use lib.Seq.{sets, length-sets, length-take-le}
-use Rattle.ground.proofs.Answers.{never}
+use Rattle.ground.proofs.Answers.{never, same_accepted}
 use Rattle.ground.specs.Answers.{Answer, accepts, refuses, declines}
 use Rattle.ground.proofs.Cases.{lt_or_le}
 use Rattle.refusals.specs.declared.Fault.{Fault}
+use Rattle.refusals.specs.Refusals.{answered}
 use Rattle.choices.specs.declared.Reading.TheVariants.{Ipv4}
 use Rattle.operators.specs.Ops.{Op, ops_in, octet_of, number_of}
 use Rattle.prefixes.proofs.Accepted.{Octets}
@@ -21,14 +22,14 @@ use Rattle.stored.specs.declared.Piece.TheVariants.{Prefix, Operators, NoRecord}
 use Rattle.stored.specs.Stored.{head, StoredRule, count_at, pieces_from, stored_at}
 use Rattle.stored.proofs.Words.{length_pieces}
 use Rattle.stored.proofs.Inverse.{put_read, accepted}
-use Rattle.reading.specs.declared.ReadInto.{ReadInto}
-use Rattle.reading.specs.Readings.{ReadRule, read_at, told_into, taken_of, words_of, operators_of}
+use Rattle.reading.specs.declared.Taken.{Taken}
+use Rattle.reading.specs.Readings.{ReadRule, read_at, taken_of, words_of, operators_of}
 use Rattle.reading.proofs.Walked.{read_rule_lem, read_family}
-use Rattle.listing.specs.declared.Listed.{Listed}
-use Rattle.listing.specs.declared.Listed.TheVariants.{Octets as Has, Refused}
-use Rattle.listing.specs.Listings.{op_lines, piece_lines, type_line, ops_line, component_lines, rule_lines, answer_lines, listed_at, listing_of, listed_into, counted_in, octets_in, told_listed}
-use Rattle.listing.specs.Puts.{Placeable, Put, AllBacked, Listable, lines_of}
-use Rattle.listing.proofs.RulesBacked.{all_counts, rule_backed, all_more}
+use Rattle.std.specs.Prelude.{Result, Ok, Err}
+use Rattle.std.specs.Result.{result_unwrap_or}
+use Rattle.listing.specs.Listings.{op_lines, piece_lines, type_line, ops_line, component_lines, rule_lines, answer_lines, listed_at, listing_of, listed_into, counted_in, octets_in}
+use Rattle.listing.specs.Puts.{AllBacked, Listable, lines_of}
+use Rattle.listing.proofs.RulesBacked.{no_operators, all_counts, rule_backed, all_more}
 use Rattle.listing.proofs.Sizes.{lines_most}
 use Rattle.listing.proofs.NeverShort.{over_long, read_whole}
 
@@ -113,18 +114,18 @@ listing_of_lem s o (accepts r) e =
       lines =
           rule_same (sets (blank 2047) 0 vs) vs (sets (blank 2047) 0 os) os (padded 2047 vs (simp length-map f)) (padded 2047 os (simp length-map f)) r.used r.pieces;
     }
-listing_of_lem s o (declines f) e = record { pieces = refl; few = omega arith; backed = λ i. tt; counts = omega arith; lines = refl }
+listing_of_lem s o (declines f) e = record { pieces = refl; few = omega arith; backed = λ i. no_operators 2047 2047; counts = omega arith; lines = refl }
 
-pub record Given (s : List ℕ) (read : ReadInto) (words values octets : List ℕ) : Type 0 where
+pub record Given (s : List ℕ) (read : Result Taken Fault) (words values octets : List ℕ) : Type 0 where
   pub listable : Listable words (length values) (length octets)
-  pub lines : lines_of (told_into read) (stored_at words 0).pieces values octets ≡ listing_of s
-  pub placeable : Placeable 0 (lines_of (told_into read) (stored_at words 0).pieces values octets)
+  pub lines : lines_of (answered read) (stored_at words 0).pieces values octets ≡ listing_of s
+  pub placeable : length (lines_of (answered read) (stored_at words 0).pieces values octets) ≤ 65536
   pub most : length (listing_of s) ≤ 65536
 
 long : (n : ℕ) (xs : List ℕ) {l : List ℕ} → l ≡ sets (blank n) 0 xs → length l ≡ n
 long n xs e = ap length e ∙ length-sets (blank n) 0 xs ∙ length-replicate {A = ℕ} n 0
 
-pub given : (s : List ℕ) → Octets s → (read : ReadInto) {words values octets : List ℕ} → told_into read ≡ taken_of (listed_at s)
+pub given : (s : List ℕ) → Octets s → (read : Result Taken Fault) {words values octets : List ℕ} → answered read ≡ taken_of (listed_at s)
     → words ≡ sets (blank 64) 0 (words_of (listed_at s)) → values ≡ sets (blank 2047) 0 (map number_of (operators_of (listed_at s)))
     → octets ≡ sets (blank 2047) 0 (map octet_of (operators_of (listed_at s))) → Given s read words values octets
 given s o read {words} {values} {octets} t w v u =
@@ -134,21 +135,16 @@ given s o read {words} {values} {octets} t w v u =
     let n = ap length e in
     let c = ap all_counts e in
     let m = lines_most read ps values octets (omega (arith, g.few)) (omega (arith, g.counts)) in
-    let i : lines_of (told_into read) ps values octets ≡ listing_of s = rw (t, e, v, u) g.lines in
+    let i : lines_of (answered read) ps values octets ≡ listing_of s = rw (t, e, v, u) g.lines in
     let a = long 64 (words_of (listed_at s)) w in
     record {
       listable =
           rw (long 2047 (map number_of (operators_of (listed_at s))) v, long 2047 (map octet_of (operators_of (listed_at s))) u)
           (record { long = omega arith; few = omega (arith, g.few, length_pieces (count_at words 0) words 0); backed = subst (AllBacked 2047 2047) (sym e) g.backed });
       lines = i;
-      placeable = record { fits = omega arith };
+      placeable = m;
       most = subst (λ (xs : List ℕ). length xs ≤ 65536) i m;
     }
-
--- the place after the lines is their number
-pub needed_is : {s : List ℕ} {read : ReadInto} {words values octets : List ℕ} {out left : List ℕ} {n : ℕ} → Given s read words values octets
-    → Put out 0 (lines_of (told_into read) (stored_at words 0).pieces values octets) left n → n ≡ length (listing_of s)
-needed_is {n = n} g p = let e = ap length g.lines in omega (arith, p.place)
 
 -- ---- what is answered
 module _ (s out : List ℕ) {n : ℕ} (is : n ≡ length (listing_of s)) where
@@ -166,20 +162,18 @@ module _ (s out : List ℕ) {n : ℕ} (is : n ≡ length (listing_of s)) where
       rw (le-ltb (length out) (length (listing_of s)) k) (ap accepts is, e)
 
 -- with room for any listing
-module _ (s out : List ℕ) (h : length (listing_of s) ≤ length out) (r : Listed) (told : told_listed r ≡ counted_in (listed_into s (length out))) where
-  roomy : listed_into s (length out) ≡ accepts (listing_of s)
-  unfolding listed_into
-  roomy = rw (le-ltb (length out) (length (listing_of s)) h)
+told_count : (r : Result ℕ Fault) {n : ℕ} → answered r ≡ accepts n → result_unwrap_or r 0 ≡ n
+told_count (Ok n) e = same_accepted e
+told_count (Err f) e = never e
 
-  pub whole_listing : {left : List ℕ} {n : ℕ} → left ≡ sets out 0 (octets_in (listed_into s (length out))) → r ≡ Has n
-      → (n ≡ length (listing_of s)) × ((left ≡ sets out 0 (listing_of s)) × ((n ≤ length left) × (n ≡ length (take n left))))
-  whole_listing {left} {n} e is =
-      let a : accepts n ≡ accepts (length (listing_of s)) = sym (ap told_listed is) ∙ told ∙ ap counted_in roomy in
-      let k : n ≡ length (listing_of s) = cc in
-      let f : left ≡ sets out 0 (listing_of s) = e ∙ ap (λ (x : Answer (List ℕ)). sets out 0 (octets_in x)) roomy in
-      let l : length left ≡ length out = ap length f ∙ length-sets out 0 (listing_of s) in
-      let m : n ≤ length left = omega arith in
-      (k, (f, (m, sym (length-take-le n left m))))
-
-  pub never_refused : {f : Fault} → r ≡ Refused f → ⊥
-  never_refused is = never (sym (ap told_listed is) ∙ told ∙ ap counted_in roomy)
+pub whole_listing : (s out : List ℕ) → length (listing_of s) ≤ length out → (r : Result ℕ Fault) → answered r ≡ counted_in (listed_into s (length out))
+    → {left : List ℕ} → left ≡ sets out 0 (octets_in (listed_into s (length out))) → {n : ℕ} → n ≡ result_unwrap_or r 0
+    → (n ≡ length (listing_of s)) × ((left ≡ sets out 0 (listing_of s)) × ((n ≤ length left) × (n ≡ length (take n left))))
+unfolding listed_into
+whole_listing s out h r told {left} e {n} is =
+    let roomy : listed_into s (length out) ≡ accepts (listing_of s) = rw (le-ltb (length out) (length (listing_of s)) h) refl in
+    let k : n ≡ length (listing_of s) = is ∙ told_count r (told ∙ ap counted_in roomy) in
+    let f : left ≡ sets out 0 (listing_of s) = e ∙ ap (λ (x : Answer (List ℕ)). sets out 0 (octets_in x)) roomy in
+    let l : length left ≡ length out = ap length f ∙ length-sets out 0 (listing_of s) in
+    let m : n ≤ length left = omega arith in
+    (k, (f, (m, sym (length-take-le n left m))))

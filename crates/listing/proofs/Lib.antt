@@ -6,4 +6,3 @@ pub mod RulesBacked
 pub mod Sizes
 pub mod NeverShort
 pub mod Answers
-pub mod Once

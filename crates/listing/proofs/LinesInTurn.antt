@@ -13,36 +13,26 @@ use Rattle.listing.specs.Listings.{op_line, op_lines, piece_lines, component_lin
 use Rattle.listing.specs.Puts.{Backed, AllBacked}
 
 -- ---- operators
-module _ (values octets : List ℕ) (start count : ℕ) where
-  -- the lines left after i
+module _ (values octets : List ℕ) (count : ℕ) where
+  -- the lines left from place i on
   abbrev pub ops_left : ℕ → List ℕ
-  ops_left i = op_lines (ops_in values octets (start + i) (count - i))
-
-  pub ops_first : op_lines (ops_in values octets start count) ≡ ops_left 0
-  ops_first = let e : start + 0 ≡ start = omega arith in let f : count - 0 ≡ count = omega arith in rw (e, f)
+  ops_left i = op_lines (ops_in values octets i (count - i))
 
   pub ops_none : (i : ℕ) → count ≤ i → ops_left i ≡ []
   unfolding op_lines ops_in
   ops_none i h = let e : count - i ≡ 0 = omega arith in rw e
 
-  pub ops_more : (i : ℕ) → i < count → ops_left i ≡ op_line (op (get_or octets (start + i) 0) (get_or values (start + i) 0)) ++ ops_left (i + 1)
+  pub ops_more : (i : ℕ) → i < count → ops_left i ≡ op_line (op (get_or octets i 0) (get_or values i 0)) ++ ops_left (i + 1)
   unfolding op_lines ops_in
   ops_more i h =
       let e : count - i ≡ suc (count - (i + 1)) = omega arith in
-      let f : start + i + 1 ≡ start + (i + 1) = omega arith in
-      ap (λ (n : ℕ). op_lines (ops_in values octets (start + i) n)) e
-      ∙ ap (λ (a : ℕ). op_line (op (get_or octets (start + i) 0) (get_or values (start + i) 0)) ++ op_lines (ops_in values octets a (count - (i + 1)))) f
+      ap (λ (n : ℕ). op_lines (ops_in values octets i n)) e
 
 -- ---- components
 module _ (values octets ws : List ℕ) (count : ℕ) where
   -- the lines left after i
   abbrev pub components_left : ℕ → List ℕ
   components_left i = component_lines values octets (pieces_from (count - i) ws (4 * i))
-
-  pub components_first : count ≡ count_at ws 0 → component_lines values octets (stored_at ws 0).pieces ≡ components_left 0
-  components_first known =
-      let e : count ≡ count - 0 = omega arith in
-      ap (λ (n : ℕ). component_lines values octets (pieces_from n ws 0)) (sym known ∙ e)
 
   pub components_none : (i : ℕ) → count ≤ i → components_left i ≡ []
   unfolding component_lines pieces_from

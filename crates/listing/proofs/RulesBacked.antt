@@ -17,10 +17,11 @@ use Rattle.prefixes.specs.declared.PrefixAt.{PrefixAt}
 use Rattle.prefixes.specs.Prefixes.{prefix_at}
 use Rattle.prefixes.proofs.Laws.{prefix_next}
 use Rattle.lists.specs.declared.Tally.{Tally}
+use Rattle.lists.specs.Runs.{Places}
 use Rattle.lists.specs.Lists.{list_at, ops_at, recorded_ops}
 use Rattle.lists.proofs.Laws.{list_ends, recorded_counts}
 use Rattle.stored.specs.declared.Piece.{Piece}
-use Rattle.stored.specs.declared.Piece.TheVariants.{Prefix, Operators, NoRecord}
+use Rattle.stored.specs.declared.Piece.TheVariants.{NoRecord}
 use Rattle.walk.specs.Walks.{FoundAt, prefix_found, list_found, typed_at, Body}
 use Rattle.walk.proofs.Ways.{typed_prefix, typed_list}
 use Rattle.walk.proofs.Components.{here}
@@ -28,13 +29,11 @@ use Rattle.walk.proofs.Chains.{Chain, none, more, walk_chained}
 use Rattle.reading.specs.Readings.{ReadRule, read_at, part}
 use Rattle.reading.specs.Parts.{body_start}
 use Rattle.reading.proofs.Walked.{read_walked, starts}
-use Rattle.listing.specs.Puts.{Backed, AllBacked}
+use Rattle.listing.specs.Puts.{count_in, Backed, AllBacked}
 
 -- in lists of so many, and so in longer ones
 backed_more : {m v o : ℕ} → m ≤ v → m ≤ o → (p : Piece) → Backed m m p → Backed v o p
-backed_more h k (Prefix t p) w = tt
-backed_more h k (Operators t start n) w = record { in_values = omega (arith, w.in_values); in_octets = omega (arith, w.in_octets) }
-backed_more h k NoRecord w = tt
+backed_more h k p w = record { in_values = omega (arith, w.in_values); in_octets = omega (arith, w.in_octets) }
 
 pub all_more : {m v o : ℕ} → m ≤ v → m ≤ o → (ps : List Piece) → AllBacked m m ps → AllBacked v o ps
 all_more h k ps w i = backed_more h k (get_or ps i NoRecord) (w i)
@@ -43,12 +42,10 @@ all_cons : (v o : ℕ) (p : Piece) (ps : List Piece) → Backed v o p → AllBac
 all_cons v o p ps h w zero = h
 all_cons v o p ps h w (suc i) = w i
 
--- how many operators a component has, and some components
-abbrev pub count_in : Piece → ℕ
-count_in (Prefix t p) = 0
-count_in (Operators t start n) = n
-count_in NoRecord = 0
+pub no_operators : (v o : ℕ) → Places 0 0 v o
+no_operators v o = record { in_values = omega arith; in_octets = omega arith }
 
+-- how many operators some components have
 abbrev pub all_counts : List Piece → ℕ
 all_counts [] = 0
 all_counts (p ∷ ps) = count_in p + all_counts ps
@@ -60,7 +57,7 @@ pub record Found (at start : ℕ) (p : FoundAt) : Type 0 where
   pub long : at + 2 * length p.operators ≤ p.next
 
 by_prefix : (r : Reading) (t : ℕ) (s : List ℕ) (at start : ℕ) {q : FoundAt} (a : Answer PrefixAt) → prefix_at r s at ≡ a → prefix_found t a ≡ accepts q → Found at start q
-by_prefix r t s at start (accepts p) i e = let h = prefix_next r s at i in subst (Found at start) (same_accepted e) (record { backed = tt; count = refl; long = omega arith })
+by_prefix r t s at start (accepts p) i e = let h = prefix_next r s at i in subst (Found at start) (same_accepted e) (record { backed = no_operators _ _; count = refl; long = omega arith })
 by_prefix r t s at start (declines f) i e = never e
 
 by_list : (r : Reading) (t : ℕ) (s : List ℕ) (at start : ℕ) {q : FoundAt} (a : Answer Tally) → list_at r t s at ≡ a
@@ -85,7 +82,7 @@ pub record Passed (at start : ℕ) (b : Body) (end : ℕ) : Type 0 where
   pub total : all_counts b.pieces ≡ length b.operators
 
 chain_passed : {r : Reading} {s : List ℕ} {stop at previous start : ℕ} {b : Body} {end : ℕ} → Chain r s stop at previous start b end → Passed at start b end
-chain_passed (none h) = record { backed = λ i. tt; long = omega arith; total = refl }
+chain_passed (none h) = record { backed = λ i. no_operators _ _; long = omega arith; total = refl }
 chain_passed {r} {s} {stop} {at} {previous} {start} {b} {end} (more {p = p} {b = d} h q c) =
     let x = typed_found r (get_or s at 0) s (at + 1) start (here r s at previous start q).typed in
     let y = chain_passed c in

@@ -8,20 +8,19 @@ use lib.ListN.{length, get_or, length-append}
 use Rattle.ground.specs.Answers.{Place, nowhere, at_octet}
 use Rattle.ground.specs.Picks.{pick}
 use Rattle.refusals.specs.declared.Fault.{Fault}
-use Rattle.refusals.specs.Refusals.{number_of, carried_of, place_of, told}
+use Rattle.refusals.specs.Refusals.{answered, number_of, carried_of, place_of, told}
 use Rattle.operators.specs.Ops.{Op, op, ops_in}
 use Rattle.rules.specs.declared.NetworkPrefix.{NetworkPrefix}
 use Rattle.rules.specs.declared.NetworkPrefix.TheVariants.{Ipv4, Ipv6, Ipv4Offset, Ipv6Offset}
 use Rattle.stored.specs.declared.Piece.{Piece}
 use Rattle.stored.specs.declared.Piece.TheVariants.{Prefix, Operators, NoRecord}
-use Rattle.reading.specs.declared.ReadInto.{ReadInto}
-use Rattle.reading.specs.declared.ReadInto.TheVariants.{Read, Refused}
-use Rattle.reading.specs.Readings.{told_into}
+use Rattle.std.specs.Prelude.{Result, Ok, Err}
+use Rattle.reading.specs.declared.Taken.{Taken}
 use Rattle.listing.specs.Texts.{ascii, digit, decimal_from, decimal, commas, dotted}
 use Rattle.listing.specs.Listings.{number_line, type_line, ops_line, op_line, op_lines, prefix_line, piece_lines, component_lines, rule_lines, place_line, refusal_lines}
-use Rattle.listing.specs.Puts.{lines_of}
+use Rattle.listing.specs.Puts.{count_in, lines_of}
 use Rattle.listing.proofs.Carried.{carried_most}
-use Rattle.listing.proofs.RulesBacked.{count_in, all_counts}
+use Rattle.listing.proofs.RulesBacked.{all_counts}
 
 one_or_none : (b : Bool) (x : ℕ) (xs : List ℕ) → length (pick b (x ∷ []) [] ++ xs) ≤ suc (length xs)
 one_or_none true x xs = omega arith
@@ -116,6 +115,6 @@ refusal_most f =
     let p = place_most (place_of f.place) in
     simp length-append (omega arith)
 
-pub lines_most : (read : ReadInto) (ps : List Piece) (values octets : List ℕ) → length ps ≤ 13 → all_counts ps ≤ 2047 → length (lines_of (told_into read) ps values octets) ≤ 65536
-lines_most (Read used n) ps values octets h w = rule_most used ps values octets h w
-lines_most (Refused f) ps values octets h w = refusal_most f
+pub lines_most : (read : Result Taken Fault) (ps : List Piece) (values octets : List ℕ) → length ps ≤ 13 → all_counts ps ≤ 2047 → length (lines_of (answered read) ps values octets) ≤ 65536
+lines_most (Ok taken) ps values octets h w = rule_most taken.used ps values octets h w
+lines_most (Err f) ps values octets h w = refusal_most f

@@ -2,7 +2,6 @@
 use Rattle.std.specs.Prelude.{ℕ, false, List, [], ◌∷◌, ◌++◌, map, ltb, length}
 use Rattle.ground.specs.Answers.{Place, nowhere, at_octet, Refused, Answer, accepts, refuses, declines}
 use Rattle.ground.specs.Picks.{pick}
-use Rattle.refusals.specs.Refusals.{refusal}
 use Rattle.choices.specs.declared.Reading.TheVariants.{Ipv4}
 use Rattle.operators.specs.Ops.{Op, octet_of, number_of, ops_in}
 use Rattle.rules.specs.declared.NetworkPrefix.{NetworkPrefix}
@@ -10,8 +9,6 @@ use Rattle.rules.specs.declared.NetworkPrefix.TheVariants.{Ipv4 as V4, Ipv6 as V
 use Rattle.stored.specs.declared.Piece.{Piece}
 use Rattle.stored.specs.declared.Piece.TheVariants.{Prefix, Operators, NoRecord}
 use Rattle.reading.specs.Readings.{ReadRule, read_at}
-use Rattle.listing.specs.declared.Listed.{Listed}
-use Rattle.listing.specs.declared.Listed.TheVariants.{Octets, Refused as NotListed}
 use Rattle.listing.specs.Texts.{ascii, hex, decimal, commas, dotted}
 
 -- a line of a key and a number
@@ -102,7 +99,3 @@ counted_in (declines f) = declines f
 abbrev pub octets_in : Answer (List ℕ) → List ℕ
 octets_in (accepts xs) = xs
 octets_in (declines f) = []
-
-abbrev pub told_listed : Listed → Answer ℕ
-told_listed (Octets n) = accepts n
-told_listed (NotListed f) = refusal f

@@ -6,4 +6,3 @@ pub mod Records
 pub mod Laws
 pub mod Runs
 pub mod Turns
-pub mod Once

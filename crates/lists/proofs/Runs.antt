@@ -1,11 +1,12 @@
 -- Laws of the first pass: what is left of a list after n operators goes by the operator there, an operator of a run's width is one step, and
 -- an operator alone is the list.
+use Rattle.std.specs.declared.ops.ControlFlow.TheVariants.{Continue, Break}
 use Prim.Native.Nat.{ℕ, ◌+◌, ◌-◌, ◌/◌, ◌%◌, ◌≤◌, ◌<◌}
 use mathlib.Core.Path.{◌≡◌, refl, sym, ◌∙◌, ap}
-use mathlib.Core.Bool.{Bool, true, false, ◌&&◌, false≢true}
+use mathlib.Core.Bool.{true, false, ◌&&◌, false≢true}
 use mathlib.Core.List.{List, [], ◌∷◌}
 use native.Mathlib.Omega.{arith}
-use borrow.Author.Tests.{leb-true, ltb-true, ltb-false, eqb-true, lt-leb, lt-ltb, le-ltb}
+use borrow.Author.Tests.{leb-true, leb-false, ltb-true, ltb-false, eqb-true, lt-leb, lt-ltb, le-ltb}
 use lib.ListN.{length, get_or}
 use lib.Dec.{leb, ltb, eqb}
 use Rattle.ground.specs.Answers.{Answer, accepts, refuses_at, declines}
@@ -21,8 +22,7 @@ use Rattle.choices.proofs.WidthTable.{codes_least}
 use Rattle.operators.specs.Ops.{kind_of}
 use Rattle.lists.specs.declared.Tally.{Tally}
 use Rattle.lists.specs.Lists.{tally, plus, op_at, after_op, too_wide, list_at}
-use Rattle.lists.specs.declared.Ran.{Ran}
-use Rattle.lists.specs.Runs.{rest, reached, Passed, lone, alone_at}
+use Rattle.lists.specs.Runs.{rest, Ran, stop, reached, Passed, lone, alone_at}
 use Rattle.lists.proofs.Operators.{operator_taken}
 use Rattle.lists.proofs.Equations.{list_missing, list_wide, list_cut, list_refused, list_last, list_more}
 
@@ -69,6 +69,11 @@ module _ (r : Reading) (t : ℕ) (s : List ℕ) (at : ℕ) where
               ap (plus n) (list_more r t s at (operator_taken r t s at narrow h e) l)
               ∙ plus_one n (list_at r t s (after_op at (op_at s at))) ∙ rw is-w
 
+          -- and past the run that follows it
+          pub rest_run : {bound : ℕ} {to : Ran} → bound ≡ limit_of r (kind_of t) → get_or s at 0 < 128
+              → Passed (code_in (get_or s at 0)) bound s (at + 1 + w) (n + 1) to → rest r t s at n ≡ reached r t s to
+          rest_run l m p = rest_more m ∙ p.same r t (record { width = omega (arith, leb-false (codes_in r t) (code_in (get_or s at 0)) narrow); limit = l })
+
 -- a code below the bound is taken
 is_narrow : (r : Reading) (t x : ℕ) → code_in x < codes_in r t → too_wide r t x ≡ false
 is_narrow r t x h = lt-leb (codes_in r t) (code_in x) h
@@ -76,22 +81,20 @@ is_narrow r t x h = lt-leb (codes_in r t) (code_in x) h
 pub width_by : (x : ℕ) {code w : ℕ} → w ≡ get_or widths code 0 → x / 16 % 4 ≡ code → w ≡ width_of x
 width_by x is-w is_code = is-w ∙ ap (λ (c : ℕ). get_or widths c 0) (sym is_code)
 
-abbrev pub ran : ℕ → ℕ → Bool → Ran
-ran count at done = record { count = count; at = at; done = done }
-
 -- a run goes on past an operator of its width
-module _ {code bound : ℕ} {s : List ℕ} {at₀ n₀ at n : ℕ} (h : Passed code bound s at₀ n₀ (ran n at false)) (is_code : code_in (get_or s at 0) ≡ code)
+module _ {code bound : ℕ} {s : List ℕ} {at₀ n₀ at n : ℕ} (h : Passed code bound s at₀ n₀ (Continue (tally n at))) (is_code : code_in (get_or s at 0) ≡ code)
     {w : ℕ} (is-w : w ≡ width_of (get_or s at 0)) (in-s : at + w < length s) (b : get_or s at 0 % 16 < bound) where
-  next : at + 1 + w ≡ at + w + 1
+  next : at + 1 + w ≡ at + (w + 1)
   next = omega arith
 
-  step : {done : Bool}
-      → ((r : Reading) (t : ℕ) → too_wide r t (get_or s at 0) ≡ false → refused_in r (kind_of t) (get_or s at 0) ≡ false
-      → rest r t s at n ≡ reached r t s (ran (n + 1) (at + w + 1) done))
-      → Passed code bound s at₀ n₀ (ran (n + 1) (at + w + 1) done)
-  step f =
+  step : (to : Ran) → stop to ≡ tally (n + 1) (at + (w + 1))
+      → ((r : Reading) (t : ℕ) → too_wide r t (get_or s at 0) ≡ false → refused_in r (kind_of t) (get_or s at 0) ≡ false → rest r t s at n ≡ reached r t s to)
+      → Passed code bound s at₀ n₀ to
+  step to e f =
       let p = h.place in
       let o = h.on in
+      let i = ap (λ (t : Tally). t.next.at) e in
+      let m = ap (λ (t : Tally). t.count) e in
       record {
         same = λ r t k. h.same r t k ∙ f r t (is_narrow r t _ (omega (arith, k.width))) (is_taken r (kind_of t) _ (omega (arith, k.limit)));
         on = omega arith;
@@ -99,11 +102,11 @@ module _ {code bound : ℕ} {s : List ℕ} {at₀ n₀ at n : ℕ} (h : Passed c
         within = omega arith;
       }
 
-  pub on_more : get_or s at 0 < 128 → Passed code bound s at₀ n₀ (ran (n + 1) (at + w + 1) false)
-  on_more l = step (λ r t c e. rest_more r t s at n c (omega arith) e is-w l ∙ ap (λ (a : ℕ). rest r t s a (n + 1)) next)
+  pub on_more : get_or s at 0 < 128 → Passed code bound s at₀ n₀ (Continue (tally (n + 1) (at + (w + 1))))
+  on_more l = step _ refl (λ r t c e. rest_more r t s at n c (omega arith) e is-w l ∙ ap (λ (a : ℕ). rest r t s a (n + 1)) next)
 
-  pub on_last : 128 ≤ get_or s at 0 → Passed code bound s at₀ n₀ (ran (n + 1) (at + w + 1) true)
-  on_last l = step (λ r t c e. rest_last r t s at n c (omega arith) e is-w l ∙ ap (λ (a : ℕ). accepts (tally (n + 1) a)) next)
+  pub on_last : 128 ≤ get_or s at 0 → Passed code bound s at₀ n₀ (Break (tally (n + 1) (at + (w + 1))))
+  on_last l = step _ refl (λ r t c e. rest_last r t s at n c (omega arith) e is-w l ∙ ap (λ (a : ℕ). accepts (tally (n + 1) a)) next)
 
 -- an operator alone: it is whole, has the end mark and a value of one octet, which every type takes
 pub lone_is : (x : ℕ) → lone x ≡ true → (128 ≤ x) × (1 ≡ width_of x)

@@ -4,7 +4,6 @@
 use Rattle.std.specs.Prelude.{ℕ, zero, suc, ◌+◌, ◌-◌, ◌≡◌, Bool, true, false, List, [], ◌∷◌, map, length, get_or, take, drop, ltb, leb}
 use Rattle.ground.specs.Answers.{Answer, accepts, refuses_at, declines}
 use Rattle.ground.specs.Picks.{pick}
-use Rattle.refusals.specs.Refusals.{refusal}
 use Rattle.octets.specs.Widths.{code_in, width_of}
 use Rattle.octets.specs.Spell.{value_of}
 use Rattle.choices.specs.declared.Reading.{Reading}
@@ -12,16 +11,10 @@ use Rattle.operators.specs.declared.Kind.{Kind}
 use Rattle.choices.specs.Choices.{codes_in, refused_in, first_in}
 use Rattle.operators.specs.Ops.{kind_of, cleared_in, Op, op}
 use Rattle.lists.specs.declared.Tally.{Tally}
-use Rattle.lists.specs.declared.Listed.{Listed}
-use Rattle.lists.specs.declared.Listed.TheVariants.{Done, Refused}
 
 -- so many operators, and the place after them
 abbrev pub tally : ℕ → ℕ → Tally
 tally count at = record { count = count; next = record { at = at } }
-
-abbrev pub told_list : Listed → Answer Tally
-told_list (Done count next) = accepts (record { count = count; next = next })
-told_list (Refused f) = refusal f
 
 -- ---- one operator: "operator octets, each with a value"
 

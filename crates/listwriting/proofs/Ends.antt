@@ -8,6 +8,7 @@ use native.Mathlib.Omega.{arith}
 use borrow.Author.Tests.{eq-eqb, ne_eqb, lt-ltb}
 use lib.Dec.{leb, ltb}
 use lib.ListN.{get_or}
+use Rattle.std.specs.declared.option.Option.TheVariants.{Some, None}
 use Rattle.ground.proofs.Cases.{lt_or_le, both}
 use Rattle.ground.specs.Picks.{pick}
 use Rattle.octets.specs.Widths.{code_in}
@@ -85,20 +86,20 @@ module _ (vs os : List ℕ) where
     whole : ops_in vs os from count ≡ op (get_or os from 0) (get_or vs from 0) ∷ ops_in vs os (from + 1) (from + count - (from + 1))
     whole = let e : from + count - from ≡ count = omega arith in ap (ops_in vs os from) (sym e) ∙ ops_more vs os from (from + count) (omega arith)
 
-    pub and_first : get_or os from 0 % 128 / 64 ≡ 1 → 0 ≡ taken_size type vs os from count
+    pub and_first : get_or os from 0 % 128 / 64 ≡ 1 → None ≡ taken_size type vs os from count
     unfolding takes
     and_first e = rw (whole, eq-eqb _ _ e)
 
-    pub size_wide : narrow_in (codes_by type) os from count ≡ false → 0 ≡ taken_size type vs os from count
-    size_wide e = ap (λ b. pick b (size_in os from count) 0) (sym (ap (λ b. takes (ops_in vs os from count) && b) (narrow_is (codes_by type) vs os from count ∙ e) ∙ and-false (takes (ops_in vs os from count))))
+    pub size_wide : narrow_in (codes_by type) os from count ≡ false → None ≡ taken_size type vs os from count
+    size_wide e = ap (λ b. pick b (Some (size_in os from count)) None) (sym (ap (λ b. takes (ops_in vs os from count) && b) (narrow_is (codes_by type) vs os from count ∙ e) ∙ and-false (takes (ops_in vs os from count))))
 
     first_turn : (get_or os from 0 % 128 / 64 ≡ 1 → ⊥) → takes (ops_in vs os from count) ≡ rest vs os from (from + count)
     unfolding takes
     first_turn e = let f : from + count - from ≡ count = omega arith in rw (f, whole, ne_eqb _ _ e)
 
     module _ (e : get_or os from 0 % 128 / 64 ≡ 1 → ⊥) where
-      pub size_right : narrow_in (codes_by type) os from count ≡ true → (n : ℕ) → rest vs os from (from + count) ≡ true → n ≡ size_in os from (from + count - from) → n ≡ taken_size type vs os from count
+      pub size_right : narrow_in (codes_by type) os from count ≡ true → (n : ℕ) → rest vs os from (from + count) ≡ true → n ≡ size_in os from (from + count - from) → Some n ≡ taken_size type vs os from count
       size_right w n r k = let f : from + count - from ≡ count = omega arith in rw (first_turn e, r, narrow_is (codes_by type) vs os from count, w, k, f)
 
-      pub size_wrong : rest vs os from (from + count) ≡ false → 0 ≡ taken_size type vs os from count
+      pub size_wrong : rest vs os from (from + count) ≡ false → None ≡ taken_size type vs os from count
       size_wrong r = rw (first_turn e, r)

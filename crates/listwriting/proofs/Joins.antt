@@ -12,6 +12,7 @@ use lib.Bits.{bit_or, bit_and, or_add_and, and_le_l, and_le_r, or_lt, and_high, 
 use lib.Dec.{eqb, leb, ltb}
 use lib.ListN.{get_or}
 use lib.Pow.{pow_pos}
+use Rattle.std.specs.declared.option.Option.TheVariants.{Some, None}
 use Rattle.ground.proofs.Cases.{by_test, both, lt_or_le}
 use Rattle.ground.specs.Picks.{pick}
 use Rattle.octets.specs.Widths.{code_in, widths, width_of}
@@ -20,7 +21,7 @@ use Rattle.choices.specs.Choices.{codes_by}
 use Rattle.choices.proofs.WidthTable.{row}
 use Rattle.operators.specs.Ops.{op}
 use Rattle.listwriting.specs.declared.Sum.{Sum}
-use Rattle.listwriting.specs.Lists.{size_in, fits_in, ends, takes, narrow, one_size}
+use Rattle.listwriting.specs.Lists.{size_in, fits_in, ends, takes, narrow, one_size, pair_size}
 use Rattle.listwriting.specs.Runs.{beyond, Alike, Joined, sum, nothing, sound, rest, Adds}
 use Rattle.listwriting.proofs.Ends.{fits_at, rest_last, rest_more, right_each}
 use Rattle.listwriting.proofs.Sizes.{size_more, size_none}
@@ -271,21 +272,21 @@ module _ (o v m : ℕ) (octet : o < 256) (word : v < 2 ^ 64) (is : m ≡ get_or 
   neither true b = refl
   neither false b = refl
 
-  pub alone_not : (t : ℕ) → not (eqb (o / 64) 2) || not (eqb (bit_and v m) 0) ≡ true → 0 ≡ one_size t o v
+  pub alone_not : (t : ℕ) → not (eqb (o / 64) 2) || not (eqb (bit_and v m) 0) ≡ true → None ≡ one_size t o v
   alone_not t e = rw (alone_takes, not-true (eqb (o / 64) 2 && eqb (bit_and v m) 0) (sym (neither (eqb (o / 64) 2) (eqb (bit_and v m) 0)) ∙ e))
 
   -- and what the type says of its width
   module _ (t : ℕ) (e : not (eqb (o / 64) 2) || not (eqb (bit_and v m) 0) ≡ false) where
-    alone_is : one_size t o v ≡ pick (ltb (code_in o) (codes_by t)) (2 + width_of o) 0
+    alone_is : one_size t o v ≡ pick (ltb (code_in o) (codes_by t)) (Some (2 + width_of o)) None
     unfolding narrow
     alone_is =
         rw (alone_takes, not-false (eqb (o / 64) 2 && eqb (bit_and v m) 0) (sym (neither (eqb (o / 64) 2) (eqb (bit_and v m) 0)) ∙ e))
-        (ap (λ b. pick b (2 + width_of o) 0) (and-true (ltb (code_in o) (codes_by t))))
+        (ap (λ b. pick b (Some (2 + width_of o)) None) (and-true (ltb (code_in o) (codes_by t))))
 
-    pub alone_wide : leb (codes_by t) (code_in o) ≡ true → 0 ≡ one_size t o v
+    pub alone_wide : leb (codes_by t) (code_in o) ≡ true → None ≡ one_size t o v
     alone_wide w = sym (alone_is ∙ rw (le-ltb (code_in o) (codes_by t) (leb-true (codes_by t) (code_in o) w)))
 
-    pub alone_narrow : leb (codes_by t) (code_in o) ≡ false → 2 + width_of o ≡ one_size t o v
+    pub alone_narrow : leb (codes_by t) (code_in o) ≡ false → Some (2 + width_of o) ≡ one_size t o v
     alone_narrow w = sym (alone_is ∙ rw (lt-ltb (code_in o) (codes_by t) (leb-false (codes_by t) (code_in o) w)))
 
 -- two operators: neither of the first's two highest bits is set, the second's highest is, and no bit past a width
@@ -312,7 +313,7 @@ in_turn_lem false f y g l = refl
 
 module _ (o v m : ℕ) (octet : o < 256) (word : v < 2 ^ 64) (is : m ≡ get_or beyond (code_in o) 0)
     (p w n : ℕ) (octet₂ : p < 256) (word₂ : w < 2 ^ 64) (is₂ : n ≡ get_or beyond (code_in p) 0) where
-  pub pair_takes : ((eqb (o / 64) 0 && leb 128 p) && eqb (bit_or (bit_and v m) (bit_and w n)) 0) ≡ takes (op o v ∷ op p w ∷ [])
+  pair_takes : ((eqb (o / 64) 0 && leb 128 p) && eqb (bit_or (bit_and v m) (bit_and w n)) 0) ≡ takes (op o v ∷ op p w ∷ [])
   unfolding takes ends
   pair_takes =
       ap₂ (λ x y. (x && leb 128 p) && y) (unmarked o octet) (or_none (bit_and v m) (bit_and w n) ∙ ap₂ ◌&&◌ (alone_fits o v m octet word is) (alone_fits p w n octet₂ word₂ is₂))
@@ -325,7 +326,7 @@ not_leb a b =
     (λ e. rw (e, le-ltb b a (leb-true a b e)))
     (λ e. rw (e, lt-ltb b a (leb-false a b e)))
 
-pub pair_wide : (t o p v w : ℕ) → leb (codes_by t) (bit_or (code_in o) (code_in p)) ≡ not (narrow (codes_by t) (op o v ∷ op p w ∷ []))
+pair_wide : (t o p v w : ℕ) → leb (codes_by t) (bit_or (code_in o) (code_in p)) ≡ not (narrow (codes_by t) (op o v ∷ op p w ∷ []))
 unfolding narrow
 pair_wide t o p v w =
     let c = codes_by t in
@@ -333,6 +334,25 @@ pair_wide t o p v w =
     let e : ltb (bit_or (code_in o) (code_in p)) c ≡ (ltb (code_in o) c && ltb (code_in p) c) =
     subst (λ (n : ℕ). ltb (bit_or (code_in o) (code_in p)) n ≡ (ltb (code_in o) n && ltb (code_in p) n)) (sym q.power) (or_below q.exponent (code_in o) (code_in p)) in
     not_leb c (bit_or (code_in o) (code_in p)) ∙ ap not (e ∙ ap (λ b. ltb (code_in o) c && b) (sym (and-true (ltb (code_in p) c))))
+
+-- the ways that two operators go: by the test, then by their widths
+module _ (o v m : ℕ) (octet : o < 256) (word : v < 2 ^ 64) (is : m ≡ get_or beyond (code_in o) 0)
+    (p w n : ℕ) (octet₂ : p < 256) (word₂ : w < 2 ^ 64) (is₂ : n ≡ get_or beyond (code_in p) 0) (t : ℕ) where
+  abbrev tested : Bool
+  tested = (eqb (o / 64) 0 && leb 128 p) && eqb (bit_or (bit_and v m) (bit_and w n)) 0
+
+  taken_by : {b : Bool} → tested ≡ b → takes (op o v ∷ op p w ∷ []) ≡ b
+  taken_by e = sym (pair_takes o v m octet word is p w n octet₂ word₂ is₂) ∙ e
+
+  pub pair_not : tested ≡ false → None ≡ pair_size t o v p w
+  pair_not e = rw (taken_by e)
+
+  module _ (e : tested ≡ true) where
+    pub pair_not_wide : leb (codes_by t) (bit_or (code_in o) (code_in p)) ≡ true → None ≡ pair_size t o v p w
+    pair_not_wide f = rw (taken_by e, not-true (narrow (codes_by t) (op o v ∷ op p w ∷ [])) (sym (pair_wide t o p v w) ∙ f))
+
+    pub pair_narrow : leb (codes_by t) (bit_or (code_in o) (code_in p)) ≡ false → Some (3 + width_of o + width_of p) ≡ pair_size t o v p w
+    pair_narrow f = rw (taken_by e, not-false (narrow (codes_by t) (op o v ∷ op p w ∷ [])) (sym (pair_wide t o p v w) ∙ f))
 
 pub code_join : (o p : ℕ) → bit_or (code_in o) (code_in p) < 4
 code_join o p = or_lt 2 (code_in o) (code_in p) (omega arith) (omega arith)

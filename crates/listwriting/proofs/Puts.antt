@@ -52,13 +52,13 @@ module _ (kind : Kind) (values octets : List ℕ) (from to at : ℕ) (out₀ : L
 
       -- one operator more
       pub put_more : {out' : List ℕ} {x : ℕ} → x ≡ cleared_in kind (get_or octets q 0) → out' ≡ sets (set out p x) (p + 1) (spelled (get_or widths code 0) (get_or values q 0))
-          → Put kind values octets from to at out₀ out' (q + 1) (p + 1 + w)
+          → Put kind values octets from to at out₀ out' (q + 1) (p + (1 + w))
       unfolding list_octets
       put_more {out'} {x} f g =
           let o = op (get_or octets q 0) (get_or values q 0) in
           let s : out' ≡ sets out p (op_octets kind o) = g ∙ rw (add-one p, f, ← wide) in
           let n : length (op_octets kind o) ≡ 1 + w = omega (arith, length_spelled (width_of (get_or octets q 0)) (get_or values q 0), wide, is-w) in
-          let m : p + 1 + w ≡ p + length (op_octets kind o) = omega arith in
+          let m : p + (1 + w) ≡ p + length (op_octets kind o) = omega arith in
           record {
             least = omega (arith, h.least);
             most = omega arith;

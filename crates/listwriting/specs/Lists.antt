@@ -1,6 +1,6 @@
 -- One list of operators in a writing: how many octets write it, and whether the standard writing takes it. The octets themselves are
 -- `list_octets` of `operators`. Document 01, "Writing"; RFC 8955, 4.2.1.1 and 4.2.1.2.
-use Rattle.std.specs.Prelude.{ℕ, zero, suc, ◌+◌, ◌*◌, ◌/◌, ◌%◌, ◌^◌, List, [], ◌∷◌, Bool, true, false, not, ◌&&◌, get_or, eqb, leb, ltb}
+use Rattle.std.specs.Prelude.{ℕ, zero, suc, ◌+◌, ◌*◌, ◌/◌, ◌%◌, ◌^◌, List, [], ◌∷◌, Bool, true, false, not, ◌&&◌, get_or, eqb, leb, ltb, None, Some, Option}
 use Rattle.octets.specs.Widths.{code_in, width_of}
 use Rattle.ground.specs.Picks.{pick}
 use Rattle.choices.specs.Choices.{codes_by}
@@ -35,14 +35,14 @@ narrow codes (o ∷ os) = ltb (code_in o.octet) codes && narrow codes os
 abbrev pub takes_in : ℕ → List Op → Bool
 takes_in type os = takes os && narrow (codes_by type) os
 
--- the octets of the operators at so many places, where the standard writing takes them; a list that it takes has some
-abbrev pub taken_size : ℕ → List ℕ → List ℕ → ℕ → ℕ → ℕ
-taken_size type values octets from count = pick (takes_in type (ops_in values octets from count)) (size_in octets from count) 0
+-- the octets of the operators at so many places, where the standard writing takes them
+abbrev pub taken_size : ℕ → List ℕ → List ℕ → ℕ → ℕ → Option ℕ
+taken_size type values octets from count = pick (takes_in type (ops_in values octets from count)) (Some (size_in octets from count)) None
 
 -- the octets of a component whose list is one operator, its type octet too
-abbrev pub one_size : ℕ → ℕ → ℕ → ℕ
-one_size type octet value = pick (takes_in type (op octet value ∷ [])) (2 + width_of octet) 0
+abbrev pub one_size : ℕ → ℕ → ℕ → Option ℕ
+one_size type octet value = pick (takes_in type (op octet value ∷ [])) (Some (2 + width_of octet)) None
 
 -- and of one whose list is two
-abbrev pub pair_size : ℕ → ℕ → ℕ → ℕ → ℕ → ℕ
-pair_size type octet value octet₂ value₂ = pick (takes_in type (op octet value ∷ op octet₂ value₂ ∷ [])) (3 + width_of octet + width_of octet₂) 0
+abbrev pub pair_size : ℕ → ℕ → ℕ → ℕ → ℕ → Option ℕ
+pair_size type octet value octet₂ value₂ = pick (takes_in type (op octet value ∷ op octet₂ value₂ ∷ [])) (Some (3 + width_of octet + width_of octet₂)) None

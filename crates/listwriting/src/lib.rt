@@ -14,7 +14,8 @@ ghost use Rattle.listwriting.specs.Runs.{narrow_in, beyond, Put, Alike, Joined, 
 
 use operators::Kind;
 
-// By the width's code: the bits that no value of the width has, and the octets that an operator of the width takes.
+// By the width's code: the bits that no value of the width has, and the octets that an operator of the width takes. Tables, since in a loop
+// over mixed widths a match costs a jump.
 const BEYOND: [u64; 4] = [
     0xFFFFFFFFFFFFFF00,
     0xFFFFFFFFFFFF0000,
@@ -45,12 +46,9 @@ pub fn size(octets: &[u8], from: usize, count: usize) -> usize
     if count == 1 {
         return 1 + octets::stride(octets[from] / 16 % 4);
     }
-    let to = from + count;
     let mut n = count;
-    let mut q = from;
-    while q < to {
+    for q in from..from + count {
         n += octets::stride(octets[q] / 16 % 4);
-        q += 1;
     }
     n
 }
@@ -64,31 +62,45 @@ pub struct Sum {
     pub size: usize,
 }
 
+// The operators of a list from one place up to another.
+// No `OperatorList`: blocks and runs are places of one list, and a slice of each would be no plainer, with two lengths to carry along.
+#[derive(Clone, Copy)]
+struct Ops<'a> {
+    values: &'a [u64],
+    octets: &'a [u8],
+    from: usize,
+    to: usize,
+    ghost order: { from ≤ to },
+    ghost in_values: { to ≤ length values.now },
+    ghost in_octets: { to ≤ length octets.now },
+}
+
 // Operators one by one. The tables are copied once, not on every turn. 2,047 operators take 18,423 octets at most.
-fn add_each(values: &[u64], octets: &[u8], from: usize, to: usize, sum: Sum) -> Sum
-    requires lists { (from ≤ to) × (to ≤ length values.now) × (to ≤ length octets.now) }
-    requires few { sum.size + 9 * (to - from) ≤ 18423 }
-    ensures { Adds values.now octets.now from to sum result }
+fn add_each(ops: Ops, sum: Sum) -> Sum
+    requires few { sum.size + 9 * (ops.to - ops.from) ≤ 18423 }
+    ensures { Adds ops.entry.values.now ops.entry.octets.now ops.entry.from ops.entry.to sum result }
 {
+    let Ops {
+        values,
+        octets,
+        from,
+        to,
+    } = ops;
+    let Sum {
+        mut over,
+        mut marks,
+        mut size,
+    } = sum;
     let past = BEYOND;
     let takes = TAKES;
-    let mut over = sum.over;
-    let mut marks = sum.marks;
-    let mut n = sum.size;
-    let mut q = from;
-    while q < to {
+    for q in from..to {
         let octet = octets[q];
         let code = (octet / 16 % 4) as usize;
-        over = over | (values[q] & past[code]);
-        marks = marks | octet;
-        n += takes[code];
-        q += 1;
+        over |= values[q] & past[code];
+        marks |= octet;
+        size += takes[code];
     }
-    Sum {
-        over: over,
-        marks: marks,
-        size: n,
-    }
+    Sum { over, marks, size }
 }
 
 // Whether 16 operators have one width and no end mark. With a constant number of turns and no way out, it is one step.
@@ -97,10 +109,8 @@ fn alike(octets: &[u8], from: usize, code: u8) -> bool
     ensures { result ≡ true → Alike octets.now code from (from + 16) }
 {
     let mut same = true;
-    let mut k: usize = 0;
-    while k < 16 {
-        same = same & (octets[from + k] / 16 % 4 == code) & (octets[from + k] < 128);
-        k += 1;
+    for k in 0..16 {
+        same &= (octets[from + k] / 16 % 4 == code) & (octets[from + k] < 128);
     }
     same
 }
@@ -110,101 +120,101 @@ fn joined(values: &[u64], from: usize) -> u64
     requires { from + 16 ≤ length values.now }
     ensures { Joined values.now from (from + 16) result }
 {
-    let mut sum: u64 = 0;
-    let mut k: usize = 0;
-    while k < 16 {
-        sum = sum | values[from + k];
-        k += 1;
+    let mut all = 0;
+    for k in 0..16 {
+        all |= values[from + k];
     }
-    sum
+    all
 }
 
-// Operators from one place up to another: 16 that are alike at once, others one by one. Two places are looked at first, since a list of
-// mixed widths mostly shows there.
-fn add_block(values: &[u64], octets: &[u8], from: usize, to: usize, sum: Sum) -> Sum
-    requires lists { (from < to) × (to ≤ length values.now) × (to ≤ length octets.now) }
-    requires few { sum.size + 9 * (to - from) ≤ 18423 }
-    ensures { Adds values.now octets.now from to sum result }
+// 16 operators: those that are alike at once, others one by one. Two places are looked at first, since a list of mixed widths mostly shows
+// there.
+fn add_block(ops: Ops, sum: Sum) -> Sum
+    requires block { ops.to ≡ ops.from + 16 }
+    requires few { sum.size + 9 * (ops.to - ops.from) ≤ 18423 }
+    ensures { Adds ops.entry.values.now ops.entry.octets.now ops.entry.from ops.entry.to sum result }
 {
-    if to - from == 16 {
-        let code = octets[from] / 16 % 4;
-        if (octets[from + 5] / 16 % 4 == code)
-            & (octets[from + 10] / 16 % 4 == code)
-            & alike(octets, from, code)
-        {
-            return Sum {
-                over: sum.over | (joined(values, from) & BEYOND[code as usize]),
-                marks: sum.marks,
-                size: sum.size + 16 * TAKES[code as usize],
-            };
-        }
+    let Ops {
+        values,
+        octets,
+        from,
+        ..
+    } = ops;
+    let code = octets[from] / 16 % 4;
+    if (octets[from + 5] / 16 % 4 == code)
+        & (octets[from + 10] / 16 % 4 == code)
+        & alike(octets, from, code)
+    {
+        return Sum {
+            over: sum.over | (joined(values, from) & BEYOND[code as usize]),
+            marks: sum.marks,
+            size: sum.size + 16 * TAKES[code as usize],
+        };
     }
-    add_each(values, octets, from, to, sum)
+    add_each(ops, sum)
 }
 
-// Where a block ends.
-fn block_end(from: usize, to: usize) -> usize
-    requires { from < to }
-    ensures { (from < result) × (result ≤ to) }
+// Few operators one by one; many in blocks, and the rest one by one.
+fn add_all(ops: Ops) -> Sum
+    requires { ops.to - ops.from ≤ 2046 }
+    ensures { Adds ops.entry.values.now ops.entry.octets.now ops.entry.from ops.entry.to nothing result }
 {
-    if to - from < 16 {
-        return to;
-    }
-    from + 16
-}
-
-fn add_all(values: &[u64], octets: &[u8], from: usize, to: usize) -> Sum
-    requires { (from ≤ to) × (to ≤ length values.now) × (to ≤ length octets.now) × (to - from ≤ 2046) }
-    ensures { Adds values.now octets.now from to nothing result }
-{
+    let Ops {
+        values,
+        octets,
+        from,
+        to,
+    } = ops;
     let mut sum = Sum {
         over: 0,
         marks: 0,
         size: 0,
     };
-    let mut q = from;
-    while q < to {
-        let next = block_end(q, to);
-        sum = add_block(values, octets, q, next, sum);
-        q = next;
-    }
-    sum
-}
-
-// Few operators one by one, many in blocks.
-fn add_some(values: &[u64], octets: &[u8], from: usize, to: usize) -> Sum
-    requires { (from ≤ to) × (to ≤ length values.now) × (to ≤ length octets.now) × (to - from ≤ 2046) }
-    ensures { Adds values.now octets.now from to nothing result }
-{
     if to - from < 16 {
-        let none = Sum {
-            over: 0,
-            marks: 0,
-            size: 0,
-        };
-        return add_each(values, octets, from, to, none);
+        return add_each(ops, sum);
     }
-    add_all(values, octets, from, to)
+    let blocks = (to - from) / 16;
+    for block in 0..blocks {
+        let q = from + 16 * block;
+        sum = add_block(
+            Ops {
+                values,
+                octets,
+                from: q,
+                to: q + 16,
+            },
+            sum,
+        );
+    }
+    add_each(
+        Ops {
+            values,
+            octets,
+            from: from + 16 * blocks,
+            to,
+        },
+        sum,
+    )
 }
 
-// In the standard writing: the octets of a component that is a type and one operator, 0 where the list is not taken. A
+// In the standard writing: the octets of a component that is a type and one operator, where the list is taken. A
 // width that the type `tag` does not take is tested last: it is rare.
-pub fn one_size(tag: u8, octet: u8, value: u64) -> usize
+pub fn one_size(tag: u8, octet: u8, value: u64) -> Option<usize>
     ensures { result ≡ one_size tag octet value }
 {
     let code = octet / 16 % 4;
     if (octet / 64 != 2) | (value & bits_beyond(code) != 0) {
-        return 0;
+        return None;
     }
     if choices::wide(tag, code) {
-        return 0;
+        return None;
     }
-    2 + octets::stride(code)
+    Some(2 + octets::stride(code))
 }
 
 // The same of a type and two operators, which a range of numbers is. The bound on codes is a power of two, so that both are below it where
 // their bits joined are.
-pub fn pair_size(tag: u8, octet: u8, value: u64, octet2: u8, value2: u64) -> usize
+pub fn pair_size(tag: u8, octet: u8, value: u64, octet2: u8, value2: u64) -> Option<usize>
     ensures { result ≡ pair_size tag octet value octet2 value2 }
 {
     let code = octet / 16 % 4;
@@ -212,11 +222,11 @@ pub fn pair_size(tag: u8, octet: u8, value: u64, octet2: u8, value2: u64) -> usi
     let over = (value & bits_beyond(code)) | (value2 & bits_beyond(code2));
     if (octet / 64 == 0) & (128 <= octet2) & (over == 0) {
         if choices::wide(tag, code | code2) {
-            return 0;
+            return None;
         }
-        return 3 + octets::stride(code) + octets::stride(code2);
+        return Some(3 + octets::stride(code) + octets::stride(code2));
     }
-    0
+    None
 }
 
 // Whether the width codes of the operators at so many places stay below a bound. All are below 4.
@@ -227,36 +237,44 @@ fn narrow(codes: u8, octets: &[u8], from: usize, count: usize) -> bool
     if 4 <= codes {
         return true;
     }
-    let to = from + count;
     let mut all = true;
-    let mut q = from;
-    while q < to {
-        all = all & (octets[q] / 16 % 4 < codes);
-        q += 1;
+    for q in from..from + count {
+        all &= octets[q] / 16 % 4 < codes;
     }
     all
 }
 
-// In the standard writing: the octets of the operators at so many places, 0 where the list is not taken. No entry point.
-pub fn taken_size(tag: u8, values: &[u64], octets: &[u8], from: usize, count: usize) -> usize
+// In the standard writing: the octets of the operators at so many places, where the list is taken. No entry point.
+pub fn taken_size(
+    tag: u8,
+    values: &[u64],
+    octets: &[u8],
+    from: usize,
+    count: usize,
+) -> Option<usize>
     requires { (from + count ≤ length values.now) × (from + count ≤ length octets.now) × (0 < count) × (count ≤ 2047) }
     ensures { result ≡ taken_size tag values.now octets.now from count }
 {
     if octets[from] % 128 / 64 == 1 {
-        return 0;
+        return None;
     }
     if !narrow(choices::codes_by(tag), octets, from, count) {
-        return 0;
+        return None;
     }
     let last = from + count - 1;
-    let sum = add_some(values, octets, from, last);
+    let sum = add_all(Ops {
+        values,
+        octets,
+        from,
+        to: last,
+    });
     let octet = octets[last];
     let code = octet / 16 % 4;
     let over = sum.over | (values[last] & bits_beyond(code));
     if (over == 0) & (sum.marks < 128) & (128 <= octet) {
-        return sum.size + 1 + octets::stride(code);
+        return Some(sum.size + 1 + octets::stride(code));
     }
-    0
+    None
 }
 
 // How far a list is written: the place of the next operator and that of the next octet.
@@ -266,60 +284,40 @@ pub struct Reached {
     pub at: usize,
 }
 
-// Operators of one width, up to the first of another. The width is a constant where this is called, so that the loop makes no choice.
-fn put_run(
-    kind: Kind,
-    values: &[u64],
-    octets: &[u8],
-    from: usize,
-    to: usize,
-    out: &mut [u8],
-    at: usize,
-    code: u8,
-    width: usize,
-) -> Reached
-    requires run { (from < to) × (to ≤ length values.now) × (to ≤ length octets.now) }
-    requires code { (code_in (get_or octets.now from 0) ≡ code) × (width ≡ get_or widths code 0) }
-    requires room { at + size_in octets.now from (to - from) ≤ length out.old }
-    ensures ran { Put kind values.now octets.now from to at out.old out.new result.next result.at }
-    ensures more { from < result.next }
+// Operators of one width, up to the first of another. The width is a constant, so that the loop makes no choice.
+fn put_run<const CODE: u8>(kind: Kind, ops: Ops, out: &mut [u8], at: usize) -> Reached
+    requires some { ops.from < ops.to }
+    requires code { code_in (get_or ops.octets.now ops.from 0) ≡ CODE }
+    requires room { at + size_in ops.octets.now ops.from (ops.to - ops.from) ≤ length out.old }
+    ensures ran { Put kind ops.entry.values.now ops.entry.octets.now ops.entry.from ops.entry.to at out.old out.new result.next result.at }
+    ensures more { ops.entry.from < result.next }
 {
-    let mut p = at;
-    let mut q = from;
+    let width = octets::stride(CODE);
+    let mut at = at;
+    let mut next = ops.from;
+    // No `for`: it ends at a place that is answered.
     loop {
-        out[p] = operators::cleared(kind, octets[q]);
-        octets::write_value(out, p + 1, code, values[q]);
-        p = p + 1 + width;
-        q += 1;
-        if to <= q {
-            return Reached { next: q, at: p };
-        }
-        if octets[q] / 16 % 4 != code {
-            return Reached { next: q, at: p };
+        out[at] = operators::cleared(kind, ops.octets[next]);
+        octets::write_value(out, at + 1, CODE, ops.values[next]);
+        at += 1 + width;
+        next += 1;
+        if ops.to <= next || ops.octets[next] / 16 % 4 != CODE {
+            return Reached { next, at };
         }
     }
 }
 
-fn put_same(
-    kind: Kind,
-    values: &[u64],
-    octets: &[u8],
-    from: usize,
-    to: usize,
-    out: &mut [u8],
-    at: usize,
-) -> Reached
-    requires run { (from < to) × (to ≤ length values.now) × (to ≤ length octets.now) }
-    requires room { at + size_in octets.now from (to - from) ≤ length out.old }
-    ensures ran { Put kind values.now octets.now from to at out.old out.new result.next result.at }
-    ensures more { from < result.next }
+fn put_same(kind: Kind, ops: Ops, out: &mut [u8], at: usize) -> Reached
+    requires some { ops.from < ops.to }
+    requires room { at + size_in ops.octets.now ops.from (ops.to - ops.from) ≤ length out.old }
+    ensures ran { Put kind ops.entry.values.now ops.entry.octets.now ops.entry.from ops.entry.to at out.old out.new result.next result.at }
+    ensures more { ops.entry.from < result.next }
 {
-    let code = octets[from] / 16 % 4;
-    match code {
-        0 => put_run(kind, values, octets, from, to, out, at, 0, 1),
-        1 => put_run(kind, values, octets, from, to, out, at, 1, 2),
-        2 => put_run(kind, values, octets, from, to, out, at, 2, 4),
-        _ => put_run(kind, values, octets, from, to, out, at, 3, 8),
+    match ops.octets[ops.from] / 16 % 4 {
+        0 => put_run::<0>(kind, ops, out, at),
+        1 => put_run::<1>(kind, ops, out, at),
+        2 => put_run::<2>(kind, ops, out, at),
+        _ => put_run::<3>(kind, ops, out, at),
     }
 }
 
@@ -338,20 +336,23 @@ pub fn put_list(
     ensures next { result ≡ at + size_in octets.now from count }
     ensures octets { out.new ≡ sets out.old at (list_octets kind (ops_in values.now octets.now from count)) }
 {
-    if count == 1 {
-        if octets[from] / 16 % 4 == 0 {
-            out[at] = operators::cleared(kind, octets[from]);
-            octets::write_value(out, at + 1, 0, values[from]);
-            return at + 2;
-        }
+    if count == 1 && octets[from] / 16 % 4 == 0 {
+        out[at] = operators::cleared(kind, octets[from]);
+        octets::write_value(out, at + 1, 0, values[from]);
+        return at + 2;
     }
     let to = from + count;
     let mut p = at;
     let mut q = from;
+    // No `for`: a turn is a run.
     while q < to {
-        let r = put_same(kind, values, octets, q, to, out, p);
-        q = r.next;
-        p = r.at;
+        let rest = Ops {
+            values,
+            octets,
+            from: q,
+            to,
+        };
+        Reached { next: q, at: p } = put_same(kind, rest, out, p);
     }
     p
 }

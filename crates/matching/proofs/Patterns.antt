@@ -5,13 +5,10 @@ use mathlib.Core.Bool.{true}
 use mathlib.Core.Logic.{⊎_elim}
 use native.Mathlib.Nat.{add-zero, mul-one, zero-mul, mod-one, mul-mod_left, eq_of_mul-eq-mul_right, mod-eq_of_lt, lt_of_lt_of_le, lt_of_le_of_lt, div-le_self}
 use native.Mathlib.Omega.{arith}
-use lib.Bits.{bit_xor, xor_add_and, xor_self, xor_lt, xor_shr, xor_mod, xor_block, and_le_l, and_le_r}
+use lib.Bits.{bit_xor, xor_add_and, xor_self, xor_lt, xor_shr, xor_mod, and_le_l, and_le_r}
 use lib.Dec.{eqb}
 use lib.Pow.{pow_pos, pow_mono, shl-shr, mod-pow-add, field, shr_mod}
 use Rattle.ground.proofs.Cases.{lt_or_le, eqb_iff}
-use Rattle.wide.specs.declared.Wide.{Wide}
-use Rattle.wide.specs.Numbers.{wide, num, wide_of}
-use Rattle.wide.proofs.Halves.{num_wide_of}
 use Rattle.matching.specs.Rules.{same_bits}
 
 -- k digits at the front of 128
@@ -41,38 +38,32 @@ none_differ u v k =
     (λ e. rw (e, xor_self v) (zero-mul (2 ^ k)))
 
 -- what `same_bits` answers, d down and u up
-module _ (width offset len a b z d k u : ℕ) (x : Wide) where
-  pub by_moves : a < 2 ^ 128 → b < 2 ^ 128 → z ≡ bit_xor a b → d ≡ width - len → k ≡ len - offset → u ≡ 128 - k → x ≡ wide_of (z / 2 ^ d * 2 ^ u % 2 ^ 128)
-      → eqb (num x) 0 ≡ same_bits width offset len a b
-  by_moves ha hb ez ed ek eu ex =
-      rw (ex, num_wide_of (z / 2 ^ d * 2 ^ u % 2 ^ 128), eu, ← ed, ← ek, front (z / 2 ^ d) k (lt_of_le_of_lt (div-le_self z (2 ^ d)) (rw ez (xor_lt 128 a b ha hb))), ez, xor_shr a b d, xor_mod (a / 2 ^ d) (b / 2 ^ d) k)
-      (none_differ (a / 2 ^ d % 2 ^ k) (b / 2 ^ d % 2 ^ k) (128 - k))
+pub by_moves : (width offset len a b d k u : ℕ) → a < 2 ^ 128 → b < 2 ^ 128 → d ≡ width - len → k ≡ len - offset → u ≡ 128 - k
+    → eqb (bit_xor a b / 2 ^ d * 2 ^ u % 2 ^ 128) 0 ≡ same_bits width offset len a b
+by_moves width offset len a b d k u ha hb ed ek eu =
+    rw (eu, ← ed, ← ek, front (bit_xor a b / 2 ^ d) k (lt_of_le_of_lt (div-le_self (bit_xor a b) (2 ^ d)) (xor_lt 128 a b ha hb)), xor_shr a b d, xor_mod (a / 2 ^ d) (b / 2 ^ d) k)
+    (none_differ (a / 2 ^ d % 2 ^ k) (b / 2 ^ d % 2 ^ k) (128 - k))
 
 -- what is left of the first bits of 128, d down
-pub by_front : (len a b z d : ℕ) (x : Wide) → a < 2 ^ 128 → b < 2 ^ 128 → z ≡ bit_xor a b → d ≡ 128 - len → x ≡ wide_of (z / 2 ^ d) → eqb (num x) 0 ≡ same_bits 128 0 len a b
-by_front len a b z d x ha hb ez ed ex =
+pub by_front : (len a b d : ℕ) → a < 2 ^ 128 → b < 2 ^ 128 → d ≡ 128 - len → eqb (bit_xor a b / 2 ^ d) 0 ≡ same_bits 128 0 len a b
+by_front len a b d ha hb ed =
     let m : 2 ^ 128 ≤ 2 ^ (len + d) = pow_mono {i = 128} {j = len + d} (omega (arith, ed)) in
     let o : len - 0 ≡ len = omega arith in
-    rw (ex, num_wide_of (z / 2 ^ d), o, ← ed, ez, xor_shr a b d, shr_mod len d (lt_of_lt_of_le ha m), shr_mod len d (lt_of_lt_of_le hb m))
+    rw (o, ← ed, xor_shr a b d, shr_mod len d (lt_of_lt_of_le ha m), shr_mod len d (lt_of_lt_of_le hb m))
     (eqb_iff _ _ _ _ (xor_zero (a / 2 ^ d) (b / 2 ^ d)) (λ e. rw e (xor_self (b / 2 ^ d))))
 
 -- an IPv4 prefix no longer than its address: the first bits of 32
-pub by_shifts : (len x h l : ℕ) → len ≤ 32 → x < 2 ^ 32 → eqb (x / 2 ^ (32 - len)) (l % 2 ^ 32 / 2 ^ (32 - len)) ≡ same_bits 32 0 len x (wide h l)
-by_shifts len x h l k b =
+pub by_shifts : (len x a : ℕ) → len ≤ 32 → x < 2 ^ 32 → eqb (x / 2 ^ (32 - len)) (a % 2 ^ 32 / 2 ^ (32 - len)) ≡ same_bits 32 0 len x a
+by_shifts len x a k b =
     let d = 32 - len in
     let e : 32 ≡ len + d = omega arith in
-    let f : l % 2 ^ 32 ≡ wide h l % 2 ^ 32 = omega arith in
     let z : len - 0 ≡ len = omega arith in
     rw z
     (ap₂ eqb (sym (shr_mod len d (subst (λ (w : ℕ). x < 2 ^ w) e b)))
-    (ap (λ (y : ℕ). y / 2 ^ d) (f ∙ ap (λ (w : ℕ). wide h l % 2 ^ w) e) ∙ field (wide h l) len d))
+    (ap (λ (w : ℕ). a % 2 ^ w / 2 ^ d) e ∙ field a len d))
 
 -- a prefix that asks for no bits
 pub no_bits : (width offset len a b : ℕ) → len ≤ offset → same_bits width offset len a b ≡ true
 no_bits width offset len a b h =
     let e : len - offset ≡ 0 = omega arith in
     rw (e, mod-one (a / 2 ^ (width - len)), mod-one (b / 2 ^ (width - len)))
-
--- the halves of what differs
-pub halves_differ : (h l k m : ℕ) → l < 2 ^ 64 → m < 2 ^ 64 → wide (bit_xor h k) (bit_xor l m) ≡ bit_xor (wide h l) (wide k m)
-halves_differ h l k m a b = sym (xor_block 64 h k l m a b)

@@ -7,6 +7,7 @@ use native.Mathlib.Omega.{arith}
 use borrow.Author.Tests.{eqb-true, lt-ltb, le-ltb, ltb-true, ltb-false, le-leb, leb-true}
 use lib.Dec.{eqb, leb, ltb}
 use lib.ListN.{length}
+use Rattle.std.specs.Prelude.{None, Some, Option}
 use Rattle.ground.specs.Answers.{accepts, refuses}
 use Rattle.ground.proofs.Answers.{never, same_accepted}
 use Rattle.ground.proofs.Cases.{by_test, both}
@@ -22,8 +23,6 @@ use Rattle.stored.specs.Stored.{pieces_from, records_from}
 use Rattle.listwriting.specs.Lists.{takes, narrow, takes_in}
 use Rattle.listwriting.proofs.Laws.{takes_none}
 use Rattle.octets.proofs.Spells.{length_spelled}
-use Rattle.rules.specs.declared.Distinguisher.{Distinguisher}
-use Rattle.rules.specs.declared.Distinguisher.TheVariants.{Absent, Is}
 use Rattle.measuring.specs.Bodies.{Lent, ops_of, prefix_octets, piece_octets, body_octets, distinguisher_octets, eight_of, whole_octets}
 use Rattle.measuring.specs.Grounds.{operators_in, all_operators, inside_of, prefix_taken, list_taken, piece_taken, all_taken, rises_in, in_order, taken_after, body_taken, body_of}
 use Rattle.measuring.proofs.Insides.{inside_both}
@@ -185,17 +184,17 @@ operators_more p ps = refl
 -- ---- a body
 
 -- a distinguisher takes eight octets, if it is written
-eight_most : (d : Distinguisher) → length (eight_of d) ≤ 8
-eight_most Absent = omega arith
-eight_most (Is n) = omega (arith, length_spelled 8 n)
+eight_most : (d : Option ℕ) → length (eight_of d) ≤ 8
+eight_most None = omega arith
+eight_most (Some n) = omega (arith, length_spelled 8 n)
 
-pub distinguisher_most : (w : Reading) (d : Distinguisher) → length (distinguisher_octets w d) ≤ 8
+pub distinguisher_most : (w : Reading) (d : Option ℕ) → length (distinguisher_octets w d) ≤ 8
 distinguisher_most Plain d = omega arith
 distinguisher_most Ipv4 d = eight_most d
 distinguisher_most Ipv6 d = eight_most d
 
 -- what a body that a writing takes shows, and needs
-pub record Taken (w : Reading) (l : Lent) (d : Distinguisher) (ps : List Piece) : Type 0 where
+pub record Taken (w : Reading) (l : Lent) (d : Option ℕ) (ps : List Piece) : Type 0 where
   pub few : all_operators ps ≤ 2047
   pub each : all_taken w l ps ≡ true
   pub order : in_order w 0 ps ≡ true
@@ -209,7 +208,7 @@ module _ (w : Reading) (l : Lent) (ps : List Piece) where
       let b = both (all_taken w l ps) (in_order w 0 ps) a.1 in
       (leb-true (all_operators ps) 2047 a.0, b.0, b.1)
 
-  pub body_shows : (d : Distinguisher) (xs : List ℕ) → body_of w l d ps ≡ accepts xs → Taken w l d ps × (xs ≡ whole_octets w l d ps)
+  pub body_shows : (d : Option ℕ) (xs : List ℕ) → body_of w l d ps ≡ accepts xs → Taken w l d ps × (xs ≡ whole_octets w l d ps)
   unfolding body_of
   body_shows d xs e =
       by_test (body_taken w l ps)
@@ -220,11 +219,11 @@ module _ (w : Reading) (l : Lent) (ps : List Piece) where
       (record { few = a.0; each = a.1; order = a.2; most = ltb-false 4095 (length (whole_octets w l d ps)) m }, sym (same_accepted (rw (t, m) at e)))))
       (λ t. never (rw t at e))
 
-  pub body_needs : (d : Distinguisher) → Taken w l d ps → body_of w l d ps ≡ accepts (whole_octets w l d ps)
+  pub body_needs : (d : Option ℕ) → Taken w l d ps → body_of w l d ps ≡ accepts (whole_octets w l d ps)
   unfolding body_of taken_after
   body_needs d h = rw (le-leb (all_operators ps) 2047 h.few, h.each, h.order, le-ltb 4095 (length (whole_octets w l d ps)) h.most)
 
   -- a piece that is not taken, a record or not, is BadRecord
-  pub body_bad : (d : Distinguisher) → all_taken w l ps ≡ false → body_of w l d ps ≡ refuses 10 []
+  pub body_bad : (d : Option ℕ) → all_taken w l ps ≡ false → body_of w l d ps ≡ refuses 10 []
   unfolding body_of taken_after
   body_bad d e = by_test (leb (all_operators ps) 2047) (λ a. rw (a, e)) (λ a. rw a)

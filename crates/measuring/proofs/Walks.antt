@@ -7,6 +7,7 @@ use native.Mathlib.Omega.{arith}
 use borrow.Author.Tests.{lt-leb, le-leb, lt-ltb, le-ltb, leb-false}
 use lib.Dec.{leb, ltb}
 use lib.ListN.{length, length-append}
+use Rattle.std.specs.Prelude.{Option}
 use Rattle.ground.specs.Answers.{Answer, accepts, refuses}
 use Rattle.ground.specs.Picks.{pick}
 use Rattle.ground.proofs.Cases.{by_test}
@@ -14,7 +15,6 @@ use Rattle.choices.specs.declared.Reading.{Reading}
 use Rattle.stored.specs.declared.Piece.{Piece}
 use Rattle.stored.specs.Pieces.{type_of, piece_at}
 use Rattle.stored.specs.Stored.{pieces_from}
-use Rattle.rules.specs.declared.Distinguisher.{Distinguisher}
 use Rattle.measuring.specs.Bodies.{Lent, distinguisher_octets, piece_octets, body_octets, whole_octets}
 use Rattle.measuring.specs.Grounds.{operators_in, all_operators, piece_taken, all_taken, rises_in, in_order, taken_after, body_taken, body_of, counted}
 use Rattle.measuring.specs.Weights.{fits_after, weight_of}
@@ -56,7 +56,7 @@ body_longer w l p ps = length-append (piece_octets w l p) (body_octets w l ps)
 abbrev pub told : Bool → ℕ → Answer ℕ
 told b n = pick b (pick (ltb 4095 n) (refuses 7 (n ∷ [])) (accepts n)) (refuses 10 [])
 
-told_body : (w : Reading) (l : Lent) (d : Distinguisher) (ps : List Piece) → counted (body_of w l d ps) ≡ told (body_taken w l ps) (length (whole_octets w l d ps))
+told_body : (w : Reading) (l : Lent) (d : Option ℕ) (ps : List Piece) → counted (body_of w l d ps) ≡ told (body_taken w l ps) (length (whole_octets w l d ps))
 unfolding body_of
 told_body w l d ps =
     by_test (body_taken w l ps)
@@ -68,7 +68,7 @@ module _ (w : Reading) (l : Lent) (ws : List ℕ) (n : ℕ) where
   abbrev pub rest_from : ℕ → ℕ → ℕ → ℕ → Answer ℕ
   rest_from i left previous body = told (taken_after w l left previous (pieces_from (n - i) ws (4 * i))) (body + length (body_octets w l (pieces_from (n - i) ws (4 * i))))
 
-  pub walk_first : (d : Distinguisher) {front : ℕ} → front ≡ length (distinguisher_octets w d) → counted (body_of w l d (pieces_from n ws 0)) ≡ rest_from 0 2047 0 front
+  pub walk_first : (d : Option ℕ) {front : ℕ} → front ≡ length (distinguisher_octets w d) → counted (body_of w l d (pieces_from n ws 0)) ≡ rest_from 0 2047 0 front
   walk_first d {front} h =
       let e : n ≡ n - 0 = omega arith in
       told_body w l d (pieces_from n ws 0)

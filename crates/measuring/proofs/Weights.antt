@@ -4,9 +4,11 @@ use mathlib.Core.Path.{◌≡◌, refl, sym, ap, ap₂, ◌∙◌}
 use mathlib.Core.List.{[], ◌∷◌}
 use mathlib.Core.Bool.{Bool, true, false, ◌&&◌, and-true, false≢true}
 use native.Mathlib.Omega.{arith}
-use borrow.Author.Tests.{le-leb, lt-leb, leb-true}
+use borrow.Author.Tests.{le-leb, leb-true}
 use lib.Dec.{eqb, leb}
 use lib.ListN.{length, get_or}
+use Rattle.std.specs.Option.{unwrap_or}
+use Rattle.std.specs.Prelude.{None, Some, Option, is_some}
 use Rattle.ground.specs.Picks.{pick}
 use Rattle.ground.proofs.Cases.{by_test, both}
 use Rattle.choices.specs.declared.Reading.{Reading}
@@ -23,7 +25,7 @@ use Rattle.prefixwriting.specs.Writings.{octets_in_plain, octets_in_standard, st
 use Rattle.prefixwriting.proofs.Puts.{length_plain, length_standard, valid_ranged}
 use Rattle.listwriting.specs.Lists.{size_in, takes_in, taken_size, one_size, pair_size}
 use Rattle.listwriting.proofs.Laws.{takes_none}
-use Rattle.listwriting.proofs.Sizes.{length_list, size_least, size_most, size_one, ops_one, size_two, ops_two}
+use Rattle.listwriting.proofs.Sizes.{length_list, size_most, size_one, ops_one, size_two, ops_two}
 use Rattle.stored.specs.declared.Piece.{Piece}
 use Rattle.stored.specs.declared.Piece.TheVariants.{Prefix, Operators, NoRecord}
 use Rattle.stored.specs.Pieces.{type_of}
@@ -32,7 +34,6 @@ use Rattle.measuring.specs.Bodies.{Lent, ops_of, prefix_octets, piece_octets}
 use Rattle.measuring.specs.Grounds.{operators_in, inside_of, prefix_taken, list_taken, piece_taken, rises_in}
 use Rattle.measuring.specs.Weights.{fits_after, weight_of, prefix_weight, plain_weight, standard_weight, other_weight}
 use Rattle.measuring.proofs.Laws.{Standard, standard_list}
-use Rattle.measuring.proofs.Tests.{and_false}
 
 -- a prefix that is taken has at most 18 octets
 plain_most : (p : NetworkPrefix) → in_range p ≡ true → octets_in_plain p ≤ 18
@@ -129,6 +130,11 @@ weight_other w l left previous (Prefix t p) n = weight_prefix w l left previous 
 weight_other w l left previous (Operators t start count) n = absurd n
 weight_other w l left previous NoRecord n = weight_none w l left previous
 
+-- a number where a test holds
+or_nothing : (b : Bool) (n : ℕ) → pick b n 0 ≡ unwrap_or (pick b (Some n) None) 0
+or_nothing true n = refl
+or_nothing false n = refl
+
 nested : (a b c : Bool) (n : ℕ) → pick (a && (b && c)) n 0 ≡ pick (a && c) (pick b n 0) 0
 nested true true c n = refl
 nested true false true n = refl
@@ -147,14 +153,15 @@ module _ (w : Reading) (l : Lent) (left previous t start n : ℕ) where
   pub weight_list_not : leb n left && rises_in w previous t ≡ false → weight_of w l left previous (Operators t start n) ≡ 0
   weight_list_not e = weight_by ∙ rw e
 
-  pub weight_list : Standard w → weight_of w l left previous (Operators t start n) ≡ pick (leb n left && rises_in w previous t) (standard_weight t l start n) 0
+  pub weight_list : Standard w → weight_of w l left previous (Operators t start n) ≡ pick (leb n left && rises_in w previous t) (unwrap_or (standard_weight t l start n) 0) 0
   unfolding standard_weight
   weight_list u =
       weight_by
       ∙ ap (λ b. pick (leb n left && rises_in w previous t) (pick (inside_of l start n && b) (1 + size_in l.octets (l.first + start) n) 0) 0)
       (standard_list w u t (ops_of l start n))
+      ∙ ap (λ (k : ℕ). pick (leb n left && rises_in w previous t) k 0) (or_nothing (inside_of l start n && takes_in t (ops_of l start n)) (1 + size_in l.octets (l.first + start) n))
 
-  pub weight_standard : Standard w → leb n left && rises_in w previous t ≡ true → weight_of w l left previous (Operators t start n) ≡ standard_weight t l start n
+  pub weight_standard : Standard w → leb n left && rises_in w previous t ≡ true → weight_of w l left previous (Operators t start n) ≡ unwrap_or (standard_weight t l start n) 0
   weight_standard u f = weight_list u ∙ rw f
 
   pub weight_plain : w ≡ Plain → leb n left && rises_in w previous t ≡ true → weight_of w l left previous (Operators t start n) ≡ plain_weight l start n
@@ -166,48 +173,19 @@ module _ (w : Reading) (l : Lent) (left previous t start n : ℕ) where
 
 -- ---- a list, by its tests
 
-module _ (l : Lent) (start n : ℕ) where
-  pub plain_outside : inside_of l start n ≡ false → 0 ≡ plain_weight l start n
-  unfolding plain_weight
-  plain_outside e = rw e
-
-  pub plain_inside : inside_of l start n ≡ true → {m : ℕ} → m ≡ size_in l.octets (l.first + start) n → 1 + m ≡ plain_weight l start n
-  unfolding plain_weight
-  plain_inside e f = rw (e, f)
-
 module _ (t : ℕ) (l : Lent) (start n : ℕ) where
-  pub standard_outside : inside_of l start n ≡ false → 0 ≡ standard_weight t l start n
+  pub standard_outside : inside_of l start n ≡ false → None ≡ standard_weight t l start n
   unfolding standard_weight
   standard_outside e = rw e
 
-  module _ (e : inside_of l start n ≡ true) (some : 0 < n) {m : ℕ} (f : m ≡ taken_size t l.values l.octets (l.first + start) n) where
-    by_taken : (b : Bool) → takes_in t (ops_of l start n) ≡ b → standard_weight t l start n ≡ pick b (1 + size_in l.octets (l.first + start) n) 0
-    unfolding standard_weight
-    by_taken b k = ap₂ (λ x y. pick (x && y) (1 + size_in l.octets (l.first + start) n) 0) e k
+  pub taken_most : {m : Option ℕ} {k : ℕ} → m ≡ taken_size t l.values l.octets (l.first + start) n → m ≡ Some k → k ≤ 9 * n
+  taken_most {m} {k} f s =
+      by_test (takes_in t (ops_of l start n))
+      (λ h. let z : m ≡ Some (size_in l.octets (l.first + start) n) = rw h at f in
+      omega (arith, ap (λ o. unwrap_or o 0) (sym s ∙ z), size_most l.octets (l.first + start) n))
+      (λ h. let z : m ≡ None = rw h at f in absurd (false≢true (ap is_some (sym z ∙ s))))
 
-    pub standard_not : m ≡ 0 → 0 ≡ standard_weight t l start n
-    standard_not y =
-        by_test (takes_in t (ops_of l start n))
-        (λ k. let z : m ≡ size_in l.octets (l.first + start) n = rw k at f in absurd (omega (arith, size_least l.octets (l.first + start) n some)))
-        (λ k. sym (by_taken false k))
-
-    pub standard_inside : (m ≡ 0 → ⊥) → 1 + m ≡ standard_weight t l start n
-    standard_inside y =
-        by_test (takes_in t (ops_of l start n))
-        (λ k. let z : m ≡ size_in l.octets (l.first + start) n = rw k at f in rw z (sym (by_taken true k)))
-        (λ k. absurd (y (rw k at f)))
-
-    pub taken_most : m ≤ 9 * n
-    taken_most =
-        by_test (takes_in t (ops_of l start n))
-        (λ k. let z : m ≡ size_in l.octets (l.first + start) n = rw k at f in omega (arith, size_most l.octets (l.first + start) n))
-        (λ k. let z : m ≡ 0 = rw k at f in omega arith)
-
-pub plain_empty : (l : Lent) (start n : ℕ) → n ≡ 0 → 1 ≡ plain_weight l start n
-unfolding plain_weight size_in
-plain_empty l start n e = rw e
-
-pub standard_empty : (t : ℕ) (l : Lent) (start n : ℕ) → n ≡ 0 → 0 ≡ standard_weight t l start n
+pub standard_empty : (t : ℕ) (l : Lent) (start n : ℕ) → n ≡ 0 → None ≡ standard_weight t l start n
 unfolding standard_weight ops_in
 standard_empty t l start n e = rw (e, takes_none)
 
@@ -217,8 +195,8 @@ standard_lone t l start e =
     let o = get_or l.octets (l.first + start) 0 in
     let v = get_or l.values (l.first + start) 0 in
     let k : 2 + width_of o ≡ 1 + size_in l.octets (l.first + start) 1 = omega (arith, size_one l.octets (l.first + start)) in
-    ap (λ (n : ℕ). pick (takes_in t (op o v ∷ [])) n 0) k
-    ∙ sym (ap₂ (λ x ys. pick (x && takes_in t ys) (1 + size_in l.octets (l.first + start) 1) 0) e (ops_one l.values l.octets (l.first + start)))
+    ap (λ (n : ℕ). pick (takes_in t (op o v ∷ [])) (Some n) None) k
+    ∙ sym (ap₂ (λ x ys. pick (x && takes_in t ys) (Some (1 + size_in l.octets (l.first + start) 1)) None) e (ops_one l.values l.octets (l.first + start)))
 
 pub standard_pair : (t : ℕ) (l : Lent) (start : ℕ) → inside_of l start 2 ≡ true
     → pair_size t (get_or l.octets (l.first + start) 0) (get_or l.values (l.first + start) 0) (get_or l.octets (l.first + start + 1) 0) (get_or l.values (l.first + start + 1) 0) ≡ standard_weight t l start 2
@@ -230,30 +208,17 @@ standard_pair t l start e =
     let p = get_or l.octets (at + 1) 0 in
     let w = get_or l.values (at + 1) 0 in
     let k : 3 + width_of o + width_of p ≡ 1 + size_in l.octets at 2 = omega (arith, size_two l.octets at) in
-    ap (λ (n : ℕ). pick (takes_in t (op o v ∷ op p w ∷ [])) n 0) k
-    ∙ sym (ap₂ (λ x ys. pick (x && takes_in t ys) (1 + size_in l.octets at 2) 0) e (ops_two l.values l.octets at))
+    ap (λ (n : ℕ). pick (takes_in t (op o v ∷ op p w ∷ [])) (Some n) None) k
+    ∙ sym (ap₂ (λ x ys. pick (x && takes_in t ys) (Some (1 + size_in l.octets at 2)) None) e (ops_two l.values l.octets at))
 
 -- ---- a prefix, by its tests
 
 module _ (w : Reading) (previous t : ℕ) (p : NetworkPrefix) where
-  pub prefix_bad : prefix_taken w p ≡ false → 0 ≡ prefix_weight w previous t p
-  unfolding prefix_weight
-  prefix_bad e = rw e
-
-  pub prefix_falls : rises_in w previous t ≡ false → 0 ≡ prefix_weight w previous t p
-  unfolding prefix_weight
-  prefix_falls e = ap (λ b. pick b (1 + length (prefix_octets w p)) 0) (sym (and_false (prefix_taken w p) e))
-
   pub prefix_fits : prefix_taken w p ≡ true → rises_in w previous t ≡ true → {n : ℕ} → n ≡ 1 + length (prefix_octets w p) → n ≡ prefix_weight w previous t p
   unfolding prefix_weight
   prefix_fits e f g = rw (e, f, g)
 
--- an IPv4 prefix: its length, and what is kept of its address
-pub long_ipv4 : (w : Reading) (len a : ℕ) → 32 < len → prefix_taken w (V4 len a) ≡ false
-long_ipv4 Plain len a h = lt-leb len 32 h
-long_ipv4 Ipv4 len a h = rw (lt-leb len 32 h)
-long_ipv4 Ipv6 len a h = refl
-
+-- what is kept of an IPv4 address
 pub kept_ipv4 : (len a k : ℕ) → len ≤ 32 → a < 2 ^ 32 → k ≡ first_bits 32 len a → prefix_taken Ipv4 (V4 len a) ≡ eqb k a
 kept_ipv4 len a k h b e = rw (le-leb len 32 h, e) (sym (none_before 32 len a b))
 

@@ -1,22 +1,18 @@
 -- Which components each writing takes; the others are BadRecord: document 01, "Writing". A width that is none of the four can't be named by
 -- an operator octet, and "at most 13 components" is tested where the rule is (`stored`).
-use Rattle.std.specs.Prelude.{ℕ, ◌+◌, List, [], ◌∷◌, Bool, true, false, ◌&&◌, ◌||◌, length, eqb, leb, ltb}
+use Rattle.std.specs.Prelude.{ℕ, ◌+◌, List, [], ◌∷◌, Bool, true, false, ◌&&◌, ◌||◌, length, eqb, leb, ltb, Option}
 use Rattle.ground.specs.Answers.{Answer, accepts, refuses, declines}
 use Rattle.ground.specs.Picks.{pick}
-use Rattle.refusals.specs.Refusals.{refusal}
 use Rattle.choices.specs.declared.Reading.{Reading}
 use Rattle.choices.specs.declared.Reading.TheVariants.{Plain, Ipv4, Ipv6}
 use Rattle.choices.specs.Choices.{last_type}
 use Rattle.operators.specs.Ops.{Op}
-use Rattle.rules.specs.declared.Distinguisher.{Distinguisher}
 use Rattle.rules.specs.declared.NetworkPrefix.{NetworkPrefix}
 use Rattle.prefixes.specs.Forms.{in_range, valid_in}
 use Rattle.stored.specs.declared.Piece.{Piece}
 use Rattle.stored.specs.declared.Piece.TheVariants.{Prefix, Operators, NoRecord}
 use Rattle.stored.specs.Pieces.{type_of}
 use Rattle.listwriting.specs.Lists.{takes_in}
-use Rattle.measuring.specs.declared.Measured.{Measured}
-use Rattle.measuring.specs.declared.Measured.TheVariants.{Body, Refused}
 use Rattle.measuring.specs.Bodies.{Lent, ops_of, whole_octets}
 
 -- "and, their counts summed, 2,047 operators"
@@ -79,14 +75,10 @@ body_taken w l ps = taken_after w l 2047 0 ps
 abbrev pub sized_body : List ℕ → Answer (List ℕ)
 sized_body body = pick (ltb 4095 (length body)) (refuses 7 (length body ∷ [])) (accepts body)
 
-unfoldable pub body_of : Reading → Lent → Distinguisher → List Piece → Answer (List ℕ)
+unfoldable pub body_of : Reading → Lent → Option ℕ → List Piece → Answer (List ℕ)
 body_of w l d ps = pick (body_taken w l ps) (sized_body (whole_octets w l d ps)) (refuses 10 [])
 
--- how many octets an answer has, and how many were measured, as it is told
+-- how many octets an answer has
 abbrev pub counted : Answer (List ℕ) → Answer ℕ
 counted (accepts xs) = accepts (length xs)
 counted (declines f) = declines f
-
-abbrev pub told_measured : Measured → Answer ℕ
-told_measured (Body n) = accepts n
-told_measured (Refused f) = refusal f

@@ -1,6 +1,6 @@
 -- What the functions within promise each other: what one piece adds to a body, 0 where the writing does not take it. A piece that is taken adds its
 -- type octet at least. No public promise rests on this but through `Grounds`.
-use Rattle.std.specs.Prelude.{ℕ, ◌+◌, Bool, ◌&&◌, length, leb}
+use Rattle.std.specs.Prelude.{ℕ, ◌+◌, Bool, ◌&&◌, length, leb, None, Some, Option}
 use Rattle.ground.specs.Picks.{pick}
 use Rattle.choices.specs.declared.Reading.{Reading}
 use Rattle.rules.specs.declared.NetworkPrefix.{NetworkPrefix}
@@ -27,8 +27,10 @@ prefix_weight w previous t p = pick (prefix_taken w p && rises_in w previous t) 
 unfoldable pub plain_weight : Lent → ℕ → ℕ → ℕ
 plain_weight l start count = pick (inside_of l start count) (1 + size_in l.octets (l.first + start) count) 0
 
-unfoldable pub standard_weight : ℕ → Lent → ℕ → ℕ → ℕ
-standard_weight type l start count = pick (inside_of l start count && takes_in type (ops_of l start count)) (1 + size_in l.octets (l.first + start) count) 0
+-- in the standard writing what it adds where it is taken
+unfoldable pub standard_weight : ℕ → Lent → ℕ → ℕ → Option ℕ
+standard_weight type l start count =
+    pick (inside_of l start count && takes_in type (ops_of l start count)) (Some (1 + size_in l.octets (l.first + start) count)) None
 
 -- what is no list
 abbrev pub other_weight : Reading → ℕ → Piece → ℕ

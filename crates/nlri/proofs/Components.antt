@@ -22,10 +22,6 @@ use Rattle.stored.specs.Pieces.{is_record, named, is_piece, piece_of, piece_at}
 use Rattle.stored.specs.Stored.{pieces_from}
 use Rattle.nlri.specs.Nlri.{listed, apart, joined}
 
--- an arm of `piece_of`
-pub by : {c d : FlowSpecComponent} {p : Piece} → c ≡ d → p ≡ apart d → p ≡ apart c
-by e f = f ∙ sym (ap apart e)
-
 -- ---- a component, from the piece that it is
 
 pub joined_apart : (c : FlowSpecComponent) → joined (apart c) ≡ c

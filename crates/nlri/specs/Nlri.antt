@@ -3,22 +3,14 @@ use Rattle.std.specs.Prelude.{ℕ, ◌+◌, ◌-◌, ◌*◌, ◌/◌, List, [],
 use Rattle.std.proofs.lemmas.List.Edits.{sets}
 use Rattle.ground.specs.Answers.{Answer, accepts, refuses, declines}
 use Rattle.ground.specs.Picks.{pick}
-use Rattle.refusals.specs.Refusals.{refusal}
-use Rattle.rules.specs.declared.Distinguisher.TheVariants.{Absent}
 use Rattle.rules.specs.declared.Span.{Span}
 use Rattle.rules.specs.declared.FlowSpecComponent.{FlowSpecComponent}
 use Rattle.rules.specs.declared.FlowSpecComponent.TheVariants.{Nothing, DestinationPrefix, SourcePrefix, IpProtocol, Port, DestinationPort, SourcePort, IcmpType, IcmpCode, TcpFlags, PacketLength, Dscp, Fragment, FlowLabel}
-use Rattle.rules.specs.declared.Slot.{Slot}
 use Rattle.rules.specs.declared.FlowSpecNlri.{FlowSpecNlri}
-use Rattle.rules.specs.Components.{prefix_of, list_of, holds_one, slot_of, covered, components_of}
+use Rattle.rules.specs.Components.{prefix_of, list_of, holds_one, covered, components_of}
 use Rattle.stored.specs.declared.Piece.{Piece}
 use Rattle.stored.specs.declared.Piece.TheVariants.{Prefix, Operators, NoRecord}
 use Rattle.stored.specs.Stored.{StoredRule, stored_rule, head, rule_words}
-use Rattle.nlri.specs.declared.RuleAnswer.{RuleAnswer}
-use Rattle.nlri.specs.declared.RuleAnswer.TheVariants.{Accepted, Refused}
-use Rattle.nlri.specs.declared.RuleRead.{RuleRead}
-use Rattle.nlri.specs.declared.Stored.{Stored}
-use Rattle.nlri.specs.declared.Stored.TheVariants.{Done, Refused as NotStored}
 
 -- ---- a component and the piece that it is
 
@@ -50,14 +42,14 @@ joined NoRecord = Nothing
 -- ---- a rule and what its words tell
 
 -- the pieces of the slots that a count covers, and the slots of some pieces, unused places empty
-abbrev pub pieces_in : ℕ → List Slot → List Piece
+abbrev pub pieces_in : ℕ → List FlowSpecComponent → List Piece
 pieces_in count slots = map apart (covered count slots)
 
-abbrev pub slot_for : Piece → Slot
-slot_for p = slot_of (joined p)
+abbrev pub slot_for : Piece → FlowSpecComponent
+slot_for p = joined p
 
-abbrev pub slots_of : List Piece → List Slot
-slots_of ps = map slot_for ps ++ replicate (13 - length ps) (slot_of Nothing)
+abbrev pub slots_of : List Piece → List FlowSpecComponent
+slots_of ps = map slot_for ps ++ replicate (13 - length ps) Nothing
 
 abbrev pub rule_of : StoredRule → FlowSpecNlri
 rule_of s = record { slots = slots_of s.pieces; count = length s.pieces; family = s.head.family; first = s.head.first; distinguisher = s.head.distinguisher }
@@ -67,23 +59,12 @@ stored_of r = stored_rule (pieces_in r.count r.slots) (head r.family r.first r.d
 
 -- ---- reading a place
 
--- an answer as it is told, and the rule that comes with it: the empty one on a refusal
-abbrev pub told_answer : RuleAnswer → StoredRule → Answer StoredRule
-told_answer Accepted s = accepts s
-told_answer (Refused f) s = refusal f
-
-abbrev pub told_read : RuleRead → Answer StoredRule
-told_read r = told_answer r.answer (stored_of r.rule)
-
-abbrev pub rule_in : Answer StoredRule → FlowSpecNlri
-rule_in (accepts s) = rule_of s
-rule_in (declines f) = rule_of (stored_rule [] (head 0 0 Absent))
+-- the rule by value of what stands there
+abbrev pub rule_in : Answer StoredRule → Answer FlowSpecNlri
+rule_in (accepts s) = accepts (rule_of s)
+rule_in (declines f) = declines f
 
 -- ---- storing to a place
-
-abbrev pub told_stored : Stored → Answer (Unit {0})
-told_stored Done = accepts tt
-told_stored (NotStored f) = refusal f
 
 -- the places that a rule at a place needs; the largest number stands for one that no machine word holds
 abbrev pub places_needed : ℕ → ℕ

@@ -1,3 +1,3 @@
 pub mod Masks
-pub mod Once
+pub mod Parts
 pub mod RoundTrips

@@ -4,28 +4,9 @@
 use Rattle.std.specs.Prelude.{ℕ, ◌+◌, ◌/◌, ◌%◌, ◌^◌, [], ◌∷◌, Bool, true, false, ◌||◌, ltb, eqb}
 use Rattle.ground.specs.Answers.{Answer, accepts, refuses}
 use Rattle.ground.specs.Picks.{pick}
-use Rattle.refusals.specs.Refusals.{refusal}
 use Rattle.octets.specs.Widths.{width_of}
 use Rattle.operators.specs.declared.NumericOperator.{NumericOperator}
 use Rattle.operators.specs.declared.BitmaskOperator.{BitmaskOperator}
-use Rattle.operators.specs.declared.NumericRead.{NumericRead}
-use Rattle.operators.specs.declared.NumericRead.TheVariants.{Operator as IsNumeric, Refused as NoNumeric}
-use Rattle.operators.specs.declared.BitmaskRead.{BitmaskRead}
-use Rattle.operators.specs.declared.BitmaskRead.TheVariants.{Operator as IsBitmask, Refused as NoBitmask}
-use Rattle.operators.specs.declared.OctetMade.{OctetMade}
-use Rattle.operators.specs.declared.OctetMade.TheVariants.{Octet, Refused as NoOctet}
-
-abbrev pub numeric_told : NumericRead → Answer NumericOperator
-numeric_told (IsNumeric o) = accepts o
-numeric_told (NoNumeric f) = refusal f
-
-abbrev pub bitmask_told : BitmaskRead → Answer BitmaskOperator
-bitmask_told (IsBitmask o) = accepts o
-bitmask_told (NoBitmask f) = refusal f
-
-abbrev pub octet_told : OctetMade → Answer ℕ
-octet_told (Octet x) = accepts x
-octet_told (NoOctet f) = refusal f
 
 -- whether the bit of a weight is set
 abbrev pub is_set : ℕ → ℕ → Bool

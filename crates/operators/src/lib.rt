@@ -3,10 +3,14 @@
 #![tactic(auto)]
 
 ghost use Rattle.std.specs.Prelude.{◌≡◌, true, false, ◌+◌, ◌≤◌};
-ghost use Rattle.operators.specs.Operators.{numeric_from, bitmask_from, numeric_octet, bitmask_octet, numeric_told, bitmask_told, octet_told, weight_of, code_part, least_width, octet_parts, is_width, comparing, masking};
+ghost use Rattle.refusals.specs.Refusals.{answered};
+ghost use Rattle.operators.specs.Operators.{numeric_from, bitmask_from, numeric_octet, bitmask_octet, weight_of, code_part, least_width, octet_parts, is_width, comparing, masking};
 ghost use Rattle.operators.specs.Ops.{kind_of, cleared_in};
 
-use refusals::{Fault, FlowSpecError, Place};
+mod lent;
+
+pub use lent::OperatorList;
+use refusals::{Fault, FlowSpecError};
 
 // What the operators of a list are.
 #[derive(Clone, Copy)]
@@ -16,16 +20,14 @@ pub enum Kind {
 }
 
 // Of a list component's type, the kind of its operators.
+#[tactic(auto, unfolding(crate::specs::Ops::kind_of))]
 pub fn kind_of(tag: u8) -> Kind
     ensures { result ≡ kind_of tag }
 {
-    if tag == 9 {
-        return Kind::Bitmask;
+    match tag {
+        9 | 12 => Kind::Bitmask,
+        _ => Kind::Numeric,
     }
-    if tag == 12 {
-        return Kind::Bitmask;
-    }
-    Kind::Numeric
 }
 
 // An operator octet with its reserved bits 0.
@@ -59,24 +61,6 @@ pub struct BitmaskOperator {
     pub bitmask: u64,
 }
 
-#[derive(Clone, Copy)]
-pub enum NumericRead {
-    Operator(NumericOperator),
-    Refused(Fault),
-}
-
-#[derive(Clone, Copy)]
-pub enum BitmaskRead {
-    Operator(BitmaskOperator),
-    Refused(Fault),
-}
-
-#[derive(Clone, Copy)]
-pub enum OctetMade {
-    Octet(u8),
-    Refused(Fault),
-}
-
 // What a flag adds to an octet.
 fn bit(set: bool, weight: u8) -> u8
     ensures is { result ≡ weight_of set weight }
@@ -86,6 +70,7 @@ fn bit(set: bool, weight: u8) -> u8
 }
 
 // What a width adds to an octet: 16 times its code.
+#[tactic(auto, unfolding(crate::specs::Operators::code_part))]
 fn code(width: u8) -> u8
     ensures is { result ≡ code_part width }
     ensures most { result ≤ 48 }
@@ -98,34 +83,28 @@ fn code(width: u8) -> u8
     }
 }
 
+#[tactic(auto, unfolding(crate::specs::Operators::is_width))]
 fn is_width(width: u8) -> bool
     ensures { result ≡ is_width width }
 {
-    match width {
-        1 => true,
-        2 => true,
-        4 => true,
-        8 => true,
-        _ => false,
-    }
+    matches!(width, 1 | 2 | 4 | 8)
 }
 
 // The octet of the two flags and the width that both kinds share, and of the low bits that they don't.
-fn octet_of(end: bool, and: bool, width: u8, low: u8) -> OctetMade
+#[tactic(auto, unfolding(crate::specs::Operators::octet_parts))]
+fn octet_of(end: bool, and: bool, width: u8, low: u8) -> Result<u8, Fault>
     requires { low ≤ 7 }
-    ensures { octet_told result ≡ octet_parts end and width low }
+    ensures { answered result ≡ octet_parts end and width low }
 {
     if is_width(width) {
-        OctetMade::Octet(bit(end, 128) + bit(and, 64) + code(width) + low)
+        Ok(bit(end, 128) + bit(and, 64) + code(width) + low)
     } else {
-        OctetMade::Refused(Fault {
-            error: FlowSpecError::BadRecord,
-            place: Place::Nowhere,
-        })
+        Err(FlowSpecError::BadRecord.into())
     }
 }
 
 // The least width that holds a value.
+#[tactic(auto, unfolding(crate::specs::Operators::least_width))]
 fn least_width(value: u64) -> u8
     ensures { result ≡ least_width value }
 {
@@ -142,29 +121,27 @@ fn least_width(value: u64) -> u8
 
 impl NumericOperator {
     // The record of an octet and a value, or InvalidOperator where 0x08 is set.
-    pub fn from_byte_and_value(octet: u8, value: u64) -> NumericRead
-        ensures { numeric_told result ≡ numeric_from octet value }
+    #[tactic(auto, unfolding(crate::specs::Operators::numeric_from))]
+    pub fn from_byte_and_value(octet: u8, value: u64) -> Result<NumericOperator, Fault>
+        ensures { answered result ≡ numeric_from octet value }
     {
         if octet / 8 % 2 == 1 {
-            return NumericRead::Refused(Fault {
-                error: FlowSpecError::InvalidOperator(octet),
-                place: Place::Nowhere,
-            });
+            return Err(FlowSpecError::InvalidOperator(octet).into());
         }
-        NumericRead::Operator(NumericOperator {
+        Ok(NumericOperator {
             end_of_list: octet / 128 % 2 == 1,
             and_with_next: octet / 64 % 2 == 1,
             value_length: octets::width(octet) as u8,
             less_than: octet / 4 % 2 == 1,
             greater_than: octet / 2 % 2 == 1,
             equal: octet % 2 == 1,
-            value: value,
+            value,
         })
     }
 
     // The record's octet, or BadRecord where its width is not 1, 2, 4 or 8.
-    pub fn to_byte(self) -> OctetMade
-        ensures { octet_told result ≡ numeric_octet self }
+    pub fn to_byte(self) -> Result<u8, Fault>
+        ensures { answered result ≡ numeric_octet self }
     {
         let low = bit(self.less_than, 4) + bit(self.greater_than, 2) + bit(self.equal, 1);
         octet_of(self.end_of_list, self.and_with_next, self.value_length, low)
@@ -180,7 +157,7 @@ impl NumericOperator {
             less_than: false,
             greater_than: false,
             equal: true,
-            value: value,
+            value,
         }
     }
 
@@ -194,35 +171,33 @@ impl NumericOperator {
             less_than: false,
             greater_than: true,
             equal: true,
-            value: value,
+            value,
         }
     }
 }
 
 impl BitmaskOperator {
     // The record of an octet and a mask, or InvalidOperator where a bit of 0x0C is set.
-    pub fn from_byte_and_value(octet: u8, bitmask: u64) -> BitmaskRead
-        ensures { bitmask_told result ≡ bitmask_from octet bitmask }
+    #[tactic(auto, unfolding(crate::specs::Operators::bitmask_from))]
+    pub fn from_byte_and_value(octet: u8, bitmask: u64) -> Result<BitmaskOperator, Fault>
+        ensures { answered result ≡ bitmask_from octet bitmask }
     {
         if octet / 4 % 4 != 0 {
-            return BitmaskRead::Refused(Fault {
-                error: FlowSpecError::InvalidOperator(octet),
-                place: Place::Nowhere,
-            });
+            return Err(FlowSpecError::InvalidOperator(octet).into());
         }
-        BitmaskRead::Operator(BitmaskOperator {
+        Ok(BitmaskOperator {
             end_of_list: octet / 128 % 2 == 1,
             and_with_next: octet / 64 % 2 == 1,
             value_length: octets::width(octet) as u8,
             not: octet / 2 % 2 == 1,
             match_flag: octet % 2 == 1,
-            bitmask: bitmask,
+            bitmask,
         })
     }
 
     // The record's octet, or BadRecord where its width is not 1, 2, 4 or 8.
-    pub fn to_byte(self) -> OctetMade
-        ensures { octet_told result ≡ bitmask_octet self }
+    pub fn to_byte(self) -> Result<u8, Fault>
+        ensures { answered result ≡ bitmask_octet self }
     {
         let low = bit(self.not, 2) + bit(self.match_flag, 1);
         octet_of(self.end_of_list, self.and_with_next, self.value_length, low)
@@ -237,7 +212,7 @@ impl BitmaskOperator {
             value_length: least_width(bitmask),
             not: false,
             match_flag: false,
-            bitmask: bitmask,
+            bitmask,
         }
     }
 
@@ -250,7 +225,7 @@ impl BitmaskOperator {
             value_length: least_width(bitmask),
             not: false,
             match_flag: true,
-            bitmask: bitmask,
+            bitmask,
         }
     }
 }

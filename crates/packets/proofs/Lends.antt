@@ -1,34 +1,14 @@
 -- The packet of some words by the tests that the code makes: the ranges by words, and what words in range lend.
-use Prim.Native.Nat.{ℕ, zero, suc}
+use Prim.Native.Nat.{ℕ}
 use mathlib.Core.Path.{◌≡◌, refl, sym, ◌∙◌, ap}
-use mathlib.Core.Bool.{Bool, true, false, not, ◌&&◌, ◌||◌, false≢true}
+use mathlib.Core.Bool.{Bool, true, false, ◌&&◌, false≢true}
 use mathlib.Core.List.{List}
-use native.Mathlib.Omega.{arith}
 use lib.ListN.{length, get_or}
-use lib.Dec.{ltb, leb, eqb}
-use borrow.Author.Tests.{le-ltb, eq-eqb, ne_eqb, eqb-true, eqb-false}
+use lib.Dec.{leb, eqb}
+use borrow.Author.Tests.{eq-eqb, ne_eqb, eqb-true, eqb-false}
 use Rattle.ground.specs.Picks.{pick}
 use Rattle.ground.proofs.Cases.{by_test}
-use Rattle.wide.specs.Numbers.{wide}
-use Rattle.packets.specs.Packets.{Packet, absent, present, neither, both, address_fits, pair_fits, field_fits, label_fits, most_flags, family_ok, packet_ok, flags_ok, no_packet, packet_of, packet_at}
-
--- a number of two halves is below 2 ^ 32 if the upper is 0 and the lower is
-pub narrow : (h l : ℕ) → eqb h 0 && ltb l 4294967296 ≡ ltb (wide h l) 4294967296
-narrow zero l = let e : wide 0 l ≡ l = omega arith in rw e
-narrow (suc h) l = rw (ne_eqb (suc h) 0 (λ e. omega (arith, e))) (sym (le-ltb (wide (suc h) l) 4294967296 (omega arith)))
-
--- what may be absent fits, or there is none
-pub pair_fits_lem : (none : Bool) (most a b : ℕ) → none || leb a most && leb b most ≡ pair_fits most (pick none neither (both a b))
-pair_fits_lem true most a b = refl
-pair_fits_lem false most a b = refl
-
-pub field_fits_lem : (none : Bool) (most n : ℕ) → none || leb n most ≡ field_fits most (pick none absent (present n))
-field_fits_lem true most n = refl
-field_fits_lem false most n = refl
-
-pub label_fits_lem : (none : Bool) (family n : ℕ) → none || not (eqb family 4) && leb n 1048575 ≡ label_fits family (pick none absent (present n))
-label_fits_lem true family n = refl
-label_fits_lem false family n = refl
+use Rattle.packets.specs.Packets.{Packet, address_fits, pair_fits, field_fits, label_fits, most_flags, family_ok, packet_ok, flags_ok, no_packet, packet_of, packet_at}
 
 pub no_packet_lem : packet_ok no_packet ≡ false
 unfolding packet_ok

@@ -2,7 +2,6 @@
 use Rattle.std.specs.Prelude.{ℕ, zero, suc, ◌+◌, List, [], ◌∷◌, eqb, get_or}
 use Rattle.ground.specs.Picks.{pick}
 use Rattle.packets.specs.declared.Place.{Place}
-use Rattle.packets.specs.declared.Shown.{Shown}
 use Rattle.packets.specs.Packets.{Field, absent, present, Pair, neither, both, Packet}
 
 -- type 1 is the destination's prefix, 2 the source's
@@ -65,13 +64,10 @@ place_of type =
     (pick (eqb type 13) (placed 17 18 1)
     (placed 0 0 0)))))))))))
 
-abbrev pub shown : ℕ → ℕ → Shown
-shown from count = record { from = from; count = count }
-
-abbrev pub shown_by : List ℕ → Place → Shown
-shown_by ws x = shown x.from (pick (eqb (get_or ws x.flag 0) 0) 0 x.count)
-
 -- count numbers from a word on
 unfoldable pub numbers_in : List ℕ → ℕ → ℕ → List ℕ
 numbers_in ws from zero = []
 numbers_in ws from (suc k) = get_or ws from 0 ∷ numbers_in ws (from + 1) k
+
+abbrev pub shown_by : List ℕ → Place → List ℕ
+shown_by ws x = pick (eqb (get_or ws x.flag 0) 0) [] (numbers_in ws x.from x.count)

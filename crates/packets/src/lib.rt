@@ -10,13 +10,10 @@
 // The functions with a `requires` are no entry points: they serve a caller that has checked the words.
 #![tactic(auto)]
 
-ghost use Rattle.std.specs.Prelude.{◌≡◌, true, eqb};
-ghost use Rattle.ground.specs.Picks.{pick};
-ghost use Rattle.wide.specs.Numbers.{num, wide};
+ghost use Rattle.std.specs.Prelude.{◌≡◌, true};
+ghost use Rattle.wide.specs.Numbers.{wide};
 ghost use Rattle.packets.specs.Packets.{address_fits, pair_fits, field_fits, label_fits, pair_of, field_of, packet_ok, packet_at};
-ghost use Rattle.packets.specs.Shown.{address_of, placed, place_of, shown_by};
-
-use wide::Wide;
+ghost use Rattle.packets.specs.Shown.{address_of, numbers_of, placed, place_of};
 
 // Twelve bits: header octets 13 and 14 without the data offset. The only place that knows how wide the flags are.
 const MOST_FLAGS: u64 = 4095;
@@ -24,28 +21,29 @@ const MOST_FLAGS: u64 = 4095;
 fn address_fits(family: u64, high: u64, low: u64) -> bool
     ensures { result ≡ address_fits family (wide high low) }
 {
-    (family != 4) | ((high == 0) & (low < 4294967296))
+    family != 4 || (high == 0 && low < 4294967296)
 }
 
 fn pair_fits(flag: u64, a: u64, b: u64, most: u64) -> bool
     ensures { result ≡ pair_fits most (pair_of flag a b) }
 {
-    (flag == 0) | ((a <= most) & (b <= most))
+    flag == 0 || (a <= most && b <= most)
 }
 
 fn field_fits(flag: u64, n: u64, most: u64) -> bool
     ensures { result ≡ field_fits most (field_of flag n) }
 {
-    (flag == 0) | (n <= most)
+    flag == 0 || n <= most
 }
 
 fn label_fits(family: u64, flag: u64, n: u64) -> bool
     ensures { result ≡ label_fits family (field_of flag n) }
 {
-    (flag == 0) | ((family != 4) & (n <= 1048575))
+    flag == 0 || (family != 4 && n <= 1048575)
 }
 
 // Whether words lend a packet that is in range: else it is BadPacket.
+#[tactic(auto, using(crate::proofs::Lends::not_twenty, crate::proofs::Lends::twenty))]
 pub fn check_words(packet: &[u64]) -> bool
     ensures { result ≡ packet_ok (packet_at packet.now) }
 {
@@ -53,6 +51,7 @@ pub fn check_words(packet: &[u64]) -> bool
         return false;
     }
     let family = packet[0];
+    // Joined by `&`, without a branch: most packets pass every test, and the join after each `&&` would be one more case in the proof.
     let lent = (packet[9] <= 1)
         & (packet[12] <= 1)
         & (packet[15] <= 1)
@@ -73,6 +72,7 @@ pub fn check_words(packet: &[u64]) -> bool
 }
 
 // The packet's family. No entry point.
+#[tactic(auto, using(crate::proofs::Lends::are_twenty, crate::proofs::Lends::lends))]
 pub fn family_of(packet: &[u64]) -> u64
     requires { packet_ok (packet_at packet.now) ≡ true }
     ensures { result ≡ (packet_at packet.now).family }
@@ -80,21 +80,16 @@ pub fn family_of(packet: &[u64]) -> u64
     packet[0]
 }
 
-fn address_word(tag: u8) -> usize
-    ensures { result ≡ pick (eqb tag 1) 1 3 }
-{
-    if tag == 1 { 1 } else { 3 }
-}
-
 // The address that a prefix of a type is held against. No entry point.
-pub fn address_of(packet: &[u64], tag: u8) -> Wide
+#[tactic(auto, using(crate::proofs::Lends::are_twenty, crate::proofs::Lends::lends))]
+pub fn address_of(packet: &[u64], tag: u8) -> u128
     requires { packet_ok (packet_at packet.now) ≡ true }
-    ensures { num result ≡ address_of (packet_at packet.now) tag }
+    ensures { result ≡ address_of (packet_at packet.now) tag }
 {
-    let at = address_word(tag);
-    Wide {
-        high: packet[at],
-        low: packet[at + 1],
+    if tag == 1 {
+        wide::joined(packet[1], packet[2])
+    } else {
+        wide::joined(packet[3], packet[4])
     }
 }
 
@@ -109,14 +104,11 @@ pub struct Place {
 fn placed(flag: usize, from: usize, count: usize) -> Place
     ensures { result ≡ placed flag from count }
 {
-    Place {
-        flag: flag,
-        from: from,
-        count: count,
-    }
+    Place { flag, from, count }
 }
 
 // A match of constants: the compiler makes a table of it that it does not copy.
+#[tactic(auto, unfolding(crate::specs::Shown::place_of))]
 fn place_of(tag: u8) -> Place
     ensures { result ≡ place_of tag }
 {
@@ -136,28 +128,15 @@ fn place_of(tag: u8) -> Place
     }
 }
 
-// The numbers that a list is put to, in the packet's words: so many from a word on.
-#[derive(Clone, Copy)]
-pub struct Shown {
-    pub from: usize,
-    pub count: usize,
-}
-
-// The numbers that a list of a type is put to. No entry point.
-pub fn shown_to(packet: &[u64], tag: u8) -> Shown
+// The numbers that a list of a type is put to, of the packet's words. No entry point.
+#[tactic(auto, using(crate::proofs::Shows::within, crate::proofs::Shows::shown_none, crate::proofs::Shows::shown_some, crate::proofs::Lends::are_twenty))]
+pub fn shown_to(packet: &[u64], tag: u8) -> &[u64]
     requires { packet_ok (packet_at packet.now) ≡ true }
-    ensures { result ≡ shown_by packet.now (place_of tag) }
+    ensures { result.now ≡ numbers_of (packet_at packet.now) tag }
 {
-    let place = place_of(tag);
-    let flag = place.flag;
+    let Place { flag, from, count } = place_of(tag);
     if packet[flag] == 0 {
-        return Shown {
-            from: place.from,
-            count: 0,
-        };
+        return &packet[..0];
     }
-    Shown {
-        from: place.from,
-        count: place.count,
-    }
+    &packet[from..from + count]
 }

@@ -19,7 +19,7 @@ use Rattle.octets.specs.Addresses.{first_bits}
 use Rattle.octets.specs.Spell.{spell, value_of}
 use Rattle.octets.proofs.Spells.{grows}
 use Rattle.wide.specs.Numbers.{wide}
-use Rattle.wide.proofs.Halves.{num_wide_of}
+use Rattle.wide.proofs.Shifts.{of_halves}
 use Rattle.prefixes.specs.declared.PrefixAt.{PrefixAt}
 use Rattle.prefixes.specs.Prefixes.{octets_of, offset_fits, from_in, offset_in, named_at, front_address, offset_address, plain_prefix, ipv4_prefix, ipv6_prefix, spelled_at, prefix_at}
 use Rattle.prefixes.specs.Forms.{in_range, valid_in}
@@ -83,7 +83,7 @@ ipv6_clean len off v f b =
     let q = fits_le len off f in
     let a = offset_address len off v in
     let x = v / 2 ^ (8 * octets_of (len - off) - (len - off)) in
-    let w : wide (a / 2 ^ 64) (a % 2 ^ 64) ≡ a = num_wide_of a in
+    let w : wide (a / 2 ^ 64) (a % 2 ^ 64) ≡ a = of_halves a in
     all_true _ _ _ _ refl f
     (ap (λ (n : ℕ). eqb (first_bits 128 len n) n) w ∙ eq-eqb _ _ (ap (λ (y : ℕ). y * 2 ^ (128 - len)) (shl-shr x (128 - len))))
     (ap (λ (n : ℕ). eqb (first_bits 128 off n) 0) w ∙ eq-eqb _ _ (none_first 128 off a (offset_lt len off v q.0 q.1 b)))

@@ -11,9 +11,6 @@ use lib.Pow.{pow_mono, pow_pos, shr_lt, shl_lt, shl-shr}
 use borrow.Author.Tests.{eq-eqb, le-leb, lt-leb}
 use Rattle.ground.proofs.Cases.{eqb_iff}
 use Rattle.ground.proofs.Powers.{cut}
-use Rattle.wide.specs.Numbers.{num, wide_of}
-use Rattle.wide.specs.declared.Wide.{Wide}
-use Rattle.wide.proofs.Halves.{num_wide_of}
 use Rattle.octets.specs.Addresses.{first_bits}
 use Rattle.octets.specs.Spell.{value_of}
 use Rattle.rules.specs.declared.NetworkPrefix.TheVariants.{Ipv4 as V4}
@@ -43,18 +40,18 @@ pub plain_long : (len v : ℕ) → 32 < len → ipv6 len (front_address 128 len 
 plain_long len v h = simp (lt-leb len 32 h)
 
 -- no cut at 128 digits shows
-module _ (v w : Wide) (len k : ℕ) (q : len ≤ 128) where
-  pub front_ipv6 : k ≡ octets_of len → num v < 2 ^ (8 * octets_of len) → w ≡ wide_of (num v * 2 ^ (128 - 8 * k) % 2 ^ 128) → w ≡ wide_of (front_address 128 len (num v))
-  front_ipv6 e b r =
+module _ (v len k : ℕ) (q : len ≤ 128) where
+  pub front_ipv6 : k ≡ octets_of len → v < 2 ^ (8 * octets_of len) → v * 2 ^ (128 - 8 * k) % 2 ^ 128 ≡ front_address 128 len v
+  front_ipv6 e b =
       let g : 8 * octets_of len ≤ 128 = omega arith in
-      r ∙ ap (λ (j : ℕ). wide_of (num v * 2 ^ (128 - 8 * j) % 2 ^ 128)) e ∙ ap wide_of (mod-eq_of_lt (front_lt 128 len (num v) g b))
+      ap (λ (j : ℕ). v * 2 ^ (128 - 8 * j) % 2 ^ 128) e ∙ mod-eq_of_lt (front_lt 128 len v g b)
 
-  pub offset_ipv6 : (off : ℕ) → off ≤ len → k ≡ octets_of (len - off) → num v < 2 ^ (8 * octets_of (len - off))
-      → w ≡ wide_of (num v / 2 ^ (8 * k - (len - off)) * 2 ^ (128 - len) % 2 ^ 128) → w ≡ wide_of (offset_address len off (num v))
-  offset_ipv6 off p e b r =
+  pub offset_ipv6 : (off : ℕ) → off ≤ len → k ≡ octets_of (len - off) → v < 2 ^ (8 * octets_of (len - off))
+      → v / 2 ^ (8 * k - (len - off)) * 2 ^ (128 - len) % 2 ^ 128 ≡ offset_address len off v
+  offset_ipv6 off p e b =
       let g : 128 - off ≤ 128 = omega arith in
-      r ∙ ap (λ (j : ℕ). wide_of (num v / 2 ^ (8 * j - (len - off)) * 2 ^ (128 - len) % 2 ^ 128)) e
-      ∙ ap wide_of (mod-eq_of_lt (lt_of_lt_of_le (offset_lt len off (num v) p q b) (pow_mono g)))
+      ap (λ (j : ℕ). v / 2 ^ (8 * j - (len - off)) * 2 ^ (128 - len) % 2 ^ 128) e
+      ∙ mod-eq_of_lt (lt_of_lt_of_le (offset_lt len off v p q b) (pow_mono g))
 
 -- an address that begins after n bits has none set among them
 pub none_first : (width n a : ℕ) → a < 2 ^ (width - n) → first_bits width n a ≡ 0
@@ -86,20 +83,16 @@ none_down n a =
     let k = 128 - n in
     eqb_iff (a / 2 ^ k) 0 (first_bits 128 n a) 0 (λ z. ap (λ (q : ℕ). q * 2 ^ k) z ∙ zero-mul (2 ^ k)) (λ z. none_of (a / 2 ^ k) k z)
 
--- a test of a number in halves
-pub told_in : (w : Wide) (n b : ℕ) → w ≡ wide_of n → eqb (num w) b ≡ eqb n b
-told_in w n b e = ap (λ (x : ℕ). eqb x b) (ap num e ∙ num_wide_of n)
-
 -- the number that the octets of an extent with no offset spell
 pub flat_spelled : (s : List ℕ) (e : Extent) → e.offset ≡ 0 → value_of (take (octets_of e.length) (drop e.from s)) ≡ spelled_at s e
 flat_spelled s e z =
     let n : e.length ≡ e.length - e.offset = omega arith in
     ap (λ (j : ℕ). value_of (take (octets_of j) (drop e.from s))) n
 
--- the number that octets spell, in halves, and its bound
-module _ (s : List ℕ) (from k K : ℕ) (e : k ≡ K) (w : Wide) (i : w ≡ wide_of (value_of (take k (drop from s)))) where
-  pub value_is : num w ≡ value_of (take K (drop from s))
-  value_is = ap num i ∙ num_wide_of (value_of (take k (drop from s))) ∙ ap (λ (j : ℕ). value_of (take j (drop from s))) e
+-- the number that octets spell, and its bound
+module _ (s : List ℕ) (from k K : ℕ) (e : k ≡ K) (v : ℕ) (i : v ≡ value_of (take k (drop from s))) where
+  pub value_is : v ≡ value_of (take K (drop from s))
+  value_is = i ∙ ap (λ (j : ℕ). value_of (take j (drop from s))) e
 
-  pub value_below : value_of (take k (drop from s)) < 2 ^ (8 * k) → num w < 2 ^ (8 * K)
-  value_below b = subst (λ (j : ℕ). num w < 2 ^ (8 * j)) e (rw (i, num_wide_of (value_of (take k (drop from s)))) b)
+  pub value_below : value_of (take k (drop from s)) < 2 ^ (8 * k) → v < 2 ^ (8 * K)
+  value_below b = subst (λ (j : ℕ). v < 2 ^ (8 * j)) e (rw i b)

@@ -38,9 +38,6 @@ module _ (r : Reading) (s : List ℕ) (at : ℕ) where
   unfolding extent_at
   extent_missing h = simp (lt-ltb (length s) (from_in r at) h)
 
-  pub extent_none : length s ≤ at → extent_at r s at ≡ refuses_at 1 [] (length s)
-  extent_none h = extent_missing (omega (arith, from_past r at))
-
   module _ (h : from_in r at ≤ length s) where
     pub extent_bad : range_in r (get_or s at 0) (offset_in r s at) ≡ false → extent_at r s at ≡ refuses_at 4 [] at
     unfolding extent_at
@@ -79,9 +76,6 @@ module _ (r : Reading) (s : List ℕ) (at : ℕ) where
 
   pub taken_extent : Taken r s at → extent_at r s at ≡ accepts (named_at r s at)
   taken_extent t = extent_whole r s at t.head t.range t.within
-
-  pub taken_is : Taken r s at → is_extent (extent_at r s at) ≡ true
-  taken_is t = ap is_extent (taken_extent t)
 
   pub extent_taken : is_extent (extent_at r s at) ≡ true → Taken r s at
   extent_taken = extent_ways (λ (a : Answer Extent). is_extent a ≡ true → Taken r s at) (λ e. absurd (false≢true e)) (λ e. absurd (false≢true e)) (λ t e. t)
@@ -174,3 +168,7 @@ extends r s {e} h =
     let g = taken_ranged r s h.at t in
     let b = ranged_bounds r (get_or s h.at 0) (offset_in r s h.at) g in
     subst (Extends r s) (sym (extent_is r s h.at h.is)) (record { ranged = g; offset = b.0; most = b.1; next = refl; within = t.within })
+
+-- the same where the reading is known by now
+pub extends_in : {r : Reading} (q : Reading) {s : List ℕ} {e : Extent} → r ≡ q → Stands r s e → Extends q s e
+extends_in q {s} {e} i h = subst (λ (x : Reading). Extends x s e) i (extends _ s h)

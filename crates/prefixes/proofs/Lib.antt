@@ -2,5 +2,3 @@ pub mod Accepted
 pub mod Addresses
 pub mod Laws
 pub mod Places
-pub mod Once
-pub mod Tests

@@ -17,9 +17,13 @@ in_range (Ipv6Offset len off h l) = leb len 128
 abbrev pub clean : ℕ → ℕ → ℕ → ℕ → Bool
 clean width len off a = eqb (first_bits width len a) a && eqb (first_bits width off a) 0
 
+-- an IPv6 address with a length and an offset, in range and with no other bits set
+abbrev pub valid_ipv6 : ℕ → ℕ → ℕ → Bool
+valid_ipv6 len off a = offset_fits len off && clean 128 len off a
+
 -- the standard writing: "a prefix of the wrong form (family 4: IPv4, no offset; 6: IPv6 with one) or range, or with other bits set"
 abbrev pub valid_in : ℕ → NetworkPrefix → Bool
 valid_in family (Ipv4 len a) = eqb family 4 && (leb len 32 && clean 32 len 0 a)
-valid_in family (Ipv6Offset len off h l) = eqb family 6 && (offset_fits len off && clean 128 len off (wide h l))
+valid_in family (Ipv6Offset len off h l) = eqb family 6 && valid_ipv6 len off (wide h l)
 valid_in family (Ipv6 len h l) = false
 valid_in family (Ipv4Offset len off a) = false

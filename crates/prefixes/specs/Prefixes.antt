@@ -12,7 +12,6 @@
 use Rattle.std.specs.Prelude.{ℕ, ◌+◌, ◌-◌, ◌*◌, ◌/◌, ◌%◌, ◌^◌, ◌≡◌, List, [], Bool, true, false, ◌&&◌, ◌||◌, length, get_or, take, drop, ltb, leb, eqb}
 use Rattle.ground.specs.Answers.{Answer, accepts, refuses_at, declines}
 use Rattle.ground.specs.Picks.{pick}
-use Rattle.refusals.specs.Refusals.{refusal}
 use Rattle.choices.specs.declared.Reading.{Reading}
 use Rattle.choices.specs.declared.Reading.TheVariants.{Plain, Ipv4, Ipv6}
 use Rattle.octets.specs.Addresses.{first_bits}
@@ -20,11 +19,7 @@ use Rattle.octets.specs.Spell.{value_of}
 use Rattle.rules.specs.declared.NetworkPrefix.{NetworkPrefix}
 use Rattle.rules.specs.declared.NetworkPrefix.TheVariants.{Ipv4 as V4, Ipv6 as V6, Ipv6Offset as V6Offset}
 use Rattle.prefixes.specs.declared.Extent.{Extent}
-use Rattle.prefixes.specs.declared.ExtentRead.{ExtentRead}
-use Rattle.prefixes.specs.declared.ExtentRead.TheVariants.{Is, Refused}
 use Rattle.prefixes.specs.declared.PrefixAt.{PrefixAt}
-use Rattle.prefixes.specs.declared.PrefixRead.{PrefixRead}
-use Rattle.prefixes.specs.declared.PrefixRead.TheVariants.{Whole, Refused as NotRead}
 
 -- "ceil(length/8) octets": those that hold n bits
 abbrev pub octets_of : ℕ → ℕ
@@ -72,10 +67,6 @@ unfoldable pub extent_at : Reading → List ℕ → ℕ → Answer Extent
 extent_at reading s at =
     pick (ltb (length s) (from_in reading at)) (refuses_at 1 [] (length s))
     (pick (range_in reading (get_or s at 0) (offset_in reading s at)) (octets_at s (named_at reading s at)) (refuses_at 4 [] at))
-
-abbrev pub told_extent : ExtentRead → Answer Extent
-told_extent (Is e) = accepts e
-told_extent (Refused f) = refusal f
 
 -- the address of so many bits whose first octets, those that hold len bits, spell v
 abbrev pub front_address : ℕ → ℕ → ℕ → ℕ
@@ -127,10 +118,6 @@ prefix_on reading s (declines f) = declines f
 -- a prefix is its extent, and what the octets there make
 unfoldable pub prefix_at : Reading → List ℕ → ℕ → Answer PrefixAt
 prefix_at reading s at = prefix_on reading s (extent_at reading s at)
-
-abbrev pub told_prefix : PrefixRead → Answer PrefixAt
-told_prefix (Whole p) = accepts p
-told_prefix (NotRead f) = refusal f
 
 -- What the functions of a second pass ask: that an extent was accepted, at a place or at some place of the octets.
 abbrev pub is_extent : Answer Extent → Bool

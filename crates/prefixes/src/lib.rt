@@ -7,17 +7,16 @@
 
 ghost use Rattle.std.specs.Prelude.{◌≡◌, true, ◌+◌, ◌-◌, ◌*◌, ◌^◌, ◌<◌, ◌≤◌, length, take, drop};
 ghost use Rattle.ground.specs.Answers.{accepts};
-ghost use Rattle.wide.specs.Numbers.{num};
+ghost use Rattle.refusals.specs.Refusals.{answered};
 ghost use Rattle.octets.specs.Spell.{value_of};
 ghost use Rattle.rules.specs.declared.NetworkPrefix.TheVariants.{Ipv6Offset};
-ghost use Rattle.prefixes.specs.Prefixes.{octets_of, offset_fits, extent_of, octets_at, extent_at, told_extent, front_address, ipv6, ipv6_prefix, prefix_from, prefix_at, told_prefix, is_extent, Stands};
-ghost use Rattle.prefixes.specs.Forms.{in_range, clean, valid_in};
+ghost use Rattle.prefixes.specs.Prefixes.{octets_of, offset_fits, extent_of, octets_at, extent_at, front_address, ipv6, ipv6_prefix, prefix_from, prefix_at, is_extent, Stands};
+ghost use Rattle.prefixes.specs.Forms.{in_range, clean, valid_ipv6, valid_in};
 
 use choices::Reading;
 use octets::Cursor;
-use refusals::{Fault, FlowSpecError, Place};
+use refusals::{Fault, FlowSpecError};
 use rules::NetworkPrefix;
-use wide::Wide;
 
 // Where a prefix stands: its length and its offset, 0 where it has none, the place of its first address octet, and the cursor after its last.
 #[derive(Clone, Copy)]
@@ -28,12 +27,6 @@ pub struct Extent {
     pub next: Cursor,
 }
 
-#[derive(Clone, Copy)]
-pub enum ExtentRead {
-    Is(Extent),
-    Refused(Fault),
-}
-
 // A prefix, and the cursor after it.
 #[derive(Clone, Copy)]
 pub struct PrefixAt {
@@ -41,13 +34,7 @@ pub struct PrefixAt {
     pub next: Cursor,
 }
 
-#[derive(Clone, Copy)]
-pub enum PrefixRead {
-    Whole(PrefixAt),
-    Refused(Fault),
-}
-
-// How many octets hold n bits.
+// How many octets hold n bits: a sum and a shift, where `div_ceil` also tests the remainder.
 pub fn octets_of(n: u8) -> usize
     ensures { result ≡ octets_of n }
 {
@@ -58,13 +45,7 @@ pub fn octets_of(n: u8) -> usize
 pub fn offset_fits(len: u8, off: u8) -> bool
     ensures { result ≡ offset_fits len off }
 {
-    if len == 0 {
-        return off == 0;
-    }
-    if len < 129 {
-        return off < len;
-    }
-    false
+    len == 0 && off == 0 || off < len && len < 129
 }
 
 // The extent of a length and an offset whose address octets start at a place.
@@ -75,7 +56,7 @@ fn extent_of(len: u8, off: u8, from: usize) -> Extent
     Extent {
         length: len,
         offset: off,
-        from: from,
+        from,
         next: Cursor {
             at: from + octets_of(len - off),
         },
@@ -83,64 +64,38 @@ fn extent_of(len: u8, off: u8, from: usize) -> Extent
 }
 
 // The same where the address octets are there.
-fn octets_at(s: &[u8], len: u8, off: u8, from: usize) -> ExtentRead
+fn octets_at(s: &[u8], len: u8, off: u8, from: usize) -> Result<Extent, Fault>
     requires { (off ≤ len) × (from ≤ length s.now) }
-    ensures { told_extent result ≡ octets_at s.now (extent_of len off from) }
+    ensures { answered result ≡ octets_at s.now (extent_of len off from) }
 {
     if s.len() - from < octets_of(len - off) {
-        return ExtentRead::Refused(Fault {
-            error: FlowSpecError::InsufficientData,
-            place: Place::Octet(s.len()),
-        });
+        return Err(FlowSpecError::InsufficientData.at(s.len()));
     }
-    ExtentRead::Is(extent_of(len, off, from))
+    Ok(extent_of(len, off, from))
 }
 
 // Where the prefix at a cursor stands, as the reading has it. Every test of a prefix is made here, and no address.
-pub fn extent_at(reading: Reading, s: &[u8], c: Cursor) -> ExtentRead
-    ensures { told_extent result ≡ extent_at reading s.now c.at }
+#[tactic(auto, unfolding(crate::specs::Prefixes::extent_at))]
+pub fn extent_at(reading: Reading, s: &[u8], c: Cursor) -> Result<Extent, Fault>
+    ensures { answered result ≡ extent_at reading s.now c.at }
 {
     let at = c.at;
     if s.len() <= at {
-        return ExtentRead::Refused(Fault {
-            error: FlowSpecError::InsufficientData,
-            place: Place::Octet(s.len()),
-        });
+        return Err(FlowSpecError::InsufficientData.at(s.len()));
     }
     let len = s[at];
     let from = at + 1;
     match reading {
-        Reading::Plain => {
-            if 128 < len {
-                return ExtentRead::Refused(Fault {
-                    error: FlowSpecError::InvalidPrefix,
-                    place: Place::Octet(at),
-                });
-            }
-            octets_at(s, len, 0, from)
-        }
-        Reading::Ipv4 => {
-            if 32 < len {
-                return ExtentRead::Refused(Fault {
-                    error: FlowSpecError::InvalidPrefix,
-                    place: Place::Octet(at),
-                });
-            }
-            octets_at(s, len, 0, from)
-        }
+        Reading::Plain if 128 < len => Err(FlowSpecError::InvalidPrefix.at(at)),
+        Reading::Ipv4 if 32 < len => Err(FlowSpecError::InvalidPrefix.at(at)),
+        Reading::Plain | Reading::Ipv4 => octets_at(s, len, 0, from),
         Reading::Ipv6 => {
             if s.len() <= from {
-                return ExtentRead::Refused(Fault {
-                    error: FlowSpecError::InsufficientData,
-                    place: Place::Octet(s.len()),
-                });
+                return Err(FlowSpecError::InsufficientData.at(s.len()));
             }
             let off = s[from];
             if !offset_fits(len, off) {
-                return ExtentRead::Refused(Fault {
-                    error: FlowSpecError::InvalidPrefix,
-                    place: Place::Octet(at),
-                });
+                return Err(FlowSpecError::InvalidPrefix.at(at));
             }
             octets_at(s, len, off, from + 1)
         }
@@ -148,6 +103,7 @@ pub fn extent_at(reading: Reading, s: &[u8], c: Cursor) -> ExtentRead
 }
 
 // The same extent where it was accepted before: nothing is tested again.
+#[tactic(auto, unfolding(crate::specs::Prefixes::extent_at))]
 fn extent_in(reading: Reading, s: &[u8], c: Cursor) -> Extent
     requires { is_extent (extent_at reading s.now c.at) ≡ true }
     ensures { extent_at reading s.now c.at ≡ accepts result }
@@ -156,8 +112,7 @@ fn extent_in(reading: Reading, s: &[u8], c: Cursor) -> Extent
     let len = s[at];
     let from = at + 1;
     match reading {
-        Reading::Plain => extent_of(len, 0, from),
-        Reading::Ipv4 => extent_of(len, 0, from),
+        Reading::Plain | Reading::Ipv4 => extent_of(len, 0, from),
         Reading::Ipv6 => extent_of(len, s[from], from + 1),
     }
 }
@@ -170,32 +125,34 @@ fn front_ipv4(s: &[u8], from: usize, len: u8) -> u32
     octets::front_four(s, from, octets_of(len))
 }
 
-// The IPv6 prefix of each reading that has one, of a length and the number that its octets spell.
-fn plain_of(len: u8, v: Wide) -> NetworkPrefix
-    requires { (len ≤ 128) × (num v < 2 ^ (8 * octets_of len)) }
-    ensures { result ≡ ipv6 len (front_address 128 len (num v)) }
+// The IPv6 prefix of each reading that has one, of a length and the number that its octets spell. The plain one keeps the bits past the length.
+#[tactic(auto, using(crate::proofs::Addresses::front_ipv6))]
+fn plain_of(len: u8, v: u128) -> NetworkPrefix
+    requires { (len ≤ 128) × (v < 2 ^ (8 * octets_of len)) }
+    ensures { result ≡ ipv6 len (front_address 128 len v) }
 {
     let bits = 8 * octets_of(len) as u32;
-    let w = wide::shl(v, 128 - bits);
+    let (high, low) = wide::halves(wide::shl(v, 128 - bits));
     NetworkPrefix::Ipv6 {
         length: len,
-        high: w.high,
-        low: w.low,
+        high,
+        low,
     }
 }
 
-fn ipv6_of(len: u8, off: u8, v: Wide) -> NetworkPrefix
-    requires { (off ≤ len) × (len ≤ 128) × (num v < 2 ^ (8 * octets_of (len - off))) }
-    ensures { result ≡ ipv6_prefix len off (num v) }
+#[tactic(auto, using(crate::proofs::Addresses::offset_ipv6))]
+fn ipv6_of(len: u8, off: u8, v: u128) -> NetworkPrefix
+    requires { (off ≤ len) × (len ≤ 128) × (v < 2 ^ (8 * octets_of (len - off))) }
+    ensures { result ≡ ipv6_prefix len off v }
 {
     let n = len - off;
     let bits = 8 * octets_of(n) as u32;
-    let w = wide::moved(v, bits - n as u32, 128 - len as u32);
+    let (high, low) = wide::halves(wide::moved(v, bits - n as u32, 128 - len as u32));
     NetworkPrefix::Ipv6Offset {
         length: len,
         offset: off,
-        high: w.high,
-        low: w.low,
+        high,
+        low,
     }
 }
 
@@ -205,61 +162,47 @@ impl Extent {
         requires { Stands reading s.now self }
         ensures { result ≡ prefix_from reading s.now self }
     {
-        let len = self.length;
-        let off = self.offset;
-        let next = self.next;
-        match reading {
-            Reading::Plain => {
-                if len <= 32 {
-                    return PrefixAt {
-                        prefix: NetworkPrefix::Ipv4 {
-                            length: len,
-                            address: front_ipv4(s, self.from, len),
-                        },
-                        next: next,
-                    };
-                }
-                let v = octets::read_pattern(s, self.from, octets_of(len));
-                PrefixAt {
-                    prefix: plain_of(len, v),
-                    next: next,
-                }
-            }
-            Reading::Ipv4 => PrefixAt {
-                prefix: NetworkPrefix::Ipv4 {
-                    length: len,
-                    address: octets::keep_ipv4(front_ipv4(s, self.from, len), len),
-                },
-                next: next,
+        let Extent {
+            length,
+            offset,
+            from,
+            next,
+        } = self;
+        let prefix = match reading {
+            Reading::Plain if length <= 32 => NetworkPrefix::Ipv4 {
+                length,
+                address: front_ipv4(s, from, length),
             },
-            Reading::Ipv6 => {
-                let v = octets::read_pattern(s, self.from, octets_of(len - off));
-                PrefixAt {
-                    prefix: ipv6_of(len, off, v),
-                    next: next,
-                }
-            }
-        }
+            Reading::Plain => plain_of(length, octets::read_pattern(s, from, octets_of(length))),
+            Reading::Ipv4 => NetworkPrefix::Ipv4 {
+                length,
+                address: octets::keep_ipv4(front_ipv4(s, from, length), length),
+            },
+            Reading::Ipv6 => ipv6_of(
+                length,
+                offset,
+                octets::read_pattern(s, from, octets_of(length - offset)),
+            ),
+        };
+        PrefixAt { prefix, next }
     }
 }
 
 // The prefix at a cursor where its extent was accepted before, for a second pass over the octets. No entry point.
+#[tactic(auto, unfolding(crate::specs::Prefixes::prefix_at))]
 pub fn prefix_in(reading: Reading, s: &[u8], c: Cursor) -> PrefixAt
     requires { is_extent (extent_at reading s.now c.at) ≡ true }
     ensures { prefix_at reading s.now c.at ≡ accepts result }
 {
-    let e = extent_in(reading, s, c);
-    e.prefix(reading, s)
+    extent_in(reading, s, c).prefix(reading, s)
 }
 
 // The prefix at a cursor, as the reading has it.
-pub fn prefix_at(reading: Reading, s: &[u8], c: Cursor) -> PrefixRead
-    ensures { told_prefix result ≡ prefix_at reading s.now c.at }
+#[tactic(auto, unfolding(crate::specs::Prefixes::prefix_at))]
+pub fn prefix_at(reading: Reading, s: &[u8], c: Cursor) -> Result<PrefixAt, Fault>
+    ensures { answered result ≡ prefix_at reading s.now c.at }
 {
-    match extent_at(reading, s, c) {
-        ExtentRead::Is(e) => PrefixRead::Whole(e.prefix(reading, s)),
-        ExtentRead::Refused(fault) => PrefixRead::Refused(fault),
-    }
+    Ok(extent_at(reading, s, c)?.prefix(reading, s))
 }
 
 // Whether a prefix is no longer than its address. What is not, neither writing takes.
@@ -267,10 +210,12 @@ pub fn in_range(prefix: NetworkPrefix) -> bool
     ensures { result ≡ in_range prefix }
 {
     match prefix {
-        NetworkPrefix::Ipv4 { length, .. } => length <= 32,
-        NetworkPrefix::Ipv6 { length, .. } => length <= 128,
-        NetworkPrefix::Ipv4Offset { length, .. } => length <= 32,
-        NetworkPrefix::Ipv6Offset { length, .. } => length <= 128,
+        NetworkPrefix::Ipv4 { length, .. } | NetworkPrefix::Ipv4Offset { length, .. } => {
+            length <= 32
+        }
+        NetworkPrefix::Ipv6 { length, .. } | NetworkPrefix::Ipv6Offset { length, .. } => {
+            length <= 128
+        }
     }
 }
 
@@ -282,28 +227,18 @@ fn clean_ipv4(len: u8, address: u32) -> bool
 }
 
 // Whether no bit of an address is set but those from offset to length: nothing is left of it past the length, nor before the offset.
-fn clean_ipv6(len: u8, off: u8, w: Wide) -> bool
+fn clean_ipv6(len: u8, off: u8, w: u128) -> bool
     requires { (len ≤ 128) × (off ≤ 128) }
-    ensures { result ≡ clean 128 len off (num w) }
+    ensures { result ≡ clean 128 len off w }
 {
-    let none = Wide { high: 0, low: 0 };
-    if !wide::same(wide::shl(w, len as u32), none) {
-        return false;
-    }
-    if off == 0 {
-        return true;
-    }
-    wide::same(wide::shr(w, (128 - off) as u32), none)
+    wide::shl(w, len as u32) == 0 && (off == 0 || wide::shr(w, (128 - off) as u32) == 0)
 }
 
 // Whether the standard writing of IPv6 takes an address with a length and an offset.
-pub fn valid_ipv6(len: u8, off: u8, w: Wide) -> bool
-    ensures { result ≡ valid_in 6 (Ipv6Offset len off w.high w.low) }
+pub fn valid_ipv6(len: u8, off: u8, w: u128) -> bool
+    ensures { result ≡ valid_ipv6 len off w }
 {
-    if offset_fits(len, off) {
-        return clean_ipv6(len, off, w);
-    }
-    false
+    offset_fits(len, off) && clean_ipv6(len, off, w)
 }
 
 // Whether the standard writing of a family takes a prefix.
@@ -312,32 +247,14 @@ pub fn valid(family: u8, prefix: NetworkPrefix) -> bool
 {
     match prefix {
         NetworkPrefix::Ipv4 { length, address } => {
-            if family == 4 {
-                if length <= 32 {
-                    return clean_ipv4(length, address);
-                }
-            }
-            false
+            family == 4 && length <= 32 && clean_ipv4(length, address)
         }
         NetworkPrefix::Ipv6Offset {
             length,
             offset,
             high,
             low,
-        } => {
-            if family == 6 {
-                return valid_ipv6(
-                    length,
-                    offset,
-                    Wide {
-                        high: high,
-                        low: low,
-                    },
-                );
-            }
-            false
-        }
-        NetworkPrefix::Ipv6 { .. } => false,
-        NetworkPrefix::Ipv4Offset { .. } => false,
+        } => family == 6 && valid_ipv6(length, offset, wide::joined(high, low)),
+        NetworkPrefix::Ipv6 { .. } | NetworkPrefix::Ipv4Offset { .. } => false,
     }
 }

@@ -10,8 +10,10 @@ use native.Mathlib.Omega.{arith}
 use lib.Dec.{ltb}
 use lib.ListN.{length, take}
 use lib.Pow.{high, low}
+use Rattle.std.specs.Cmp.{IsTotalOrder}
+use Rattle.std.specs.Ordering.{ordering_reverse}
 use Rattle.ground.proofs.Cases.{by_test, both}
-use Rattle.wide.specs.Numbers.{num, wide}
+use Rattle.wide.specs.Numbers.{wide}
 use Rattle.octets.specs.Addresses.{first_bits}
 use Rattle.rules.specs.declared.NetworkPrefix.TheVariants.{Ipv4, Ipv6Offset}
 use Rattle.stored.specs.declared.Piece.{Piece}
@@ -19,45 +21,43 @@ use Rattle.stored.specs.declared.Piece.TheVariants.{Prefix, Operators, NoRecord}
 use Rattle.stored.specs.declared.Quad.{Quad}
 use Rattle.stored.specs.Pieces.{type_of, named, is_piece, piece_of, piece_at, quad_at}
 use Rattle.stored.specs.Stored.{StoredRule}
-use Rattle.ranking.specs.declared.Order.{Order}
-use Rattle.ranking.specs.declared.Order.TheVariants.{Precedes, Equal, Follows}
 use Rattle.ranking.specs.declared.Front.{Front}
-use Rattle.ranking.specs.Ranks.{is_before, lower, then_by, in_turn, rank_octets, leading_bits, front_of, rank_front, rank_prefix, Content, prefixed, listed, Compared, rank_content, rank_compared, rank, all_compared, rank_of}
-use Rattle.ranking.proofs.Orders.{never, way, low_below, low_equal, low_above, low_suc, equal_same, then_assoc, then_first, then_second, flip, Ordered, by_key}
+use Rattle.ranking.specs.Ranks.{Ordering, Precedes, Equal, Follows, is_before, lower, then_by, in_turn, rank_octets, leading_bits, front_of, rank_front, rank_prefix, Content, prefixed, listed, Compared, rank_content, rank_compared, rank, all_compared, rank_of}
+use Rattle.ranking.proofs.Orders.{never, way, low_below, low_equal, low_above, low_suc, equal_same, then_assoc, then_first, then_second, by_key}
 use Rattle.ranking.proofs.LeadingBits.{first_ipv4}
 use Rattle.ranking.proofs.Keys.{rank_ordered}
 
 -- ---- what every order has
 
 -- one way round and the other: the first precedes, neither does, or the second precedes
-pub data One (o p : Order) : Type 0 where
+pub data One (o p : Ordering) : Type 0 where
   first : o ≡ Precedes → p ≡ Follows → One o p
   neither : o ≡ Equal → p ≡ Equal → One o p
   second : o ≡ Follows → p ≡ Precedes → One o p
 
-module _ {A : Type 0} (by : A → A → Order) (o : Ordered by) where
-  one' : (x y : A) (q : Order) → by x y ≡ q → One (by x y) (by y x)
-  one' x y Precedes e = first e (o.flips x y ∙ ap flip e)
-  one' x y Equal e = neither e (o.flips x y ∙ ap flip e)
-  one' x y Follows e = second e (o.flips x y ∙ ap flip e)
+module _ {A : Type 0} (by : A → A → Ordering) (o : IsTotalOrder by) where
+  one' : (x y : A) (q : Ordering) → by x y ≡ q → One (by x y) (by y x)
+  one' x y Precedes e = first e (o.antisymm y x ∙ ap ordering_reverse e)
+  one' x y Equal e = neither e (o.antisymm y x ∙ ap ordering_reverse e)
+  one' x y Follows e = second e (o.antisymm y x ∙ ap ordering_reverse e)
 
   pub exactly_one : (x y : A) → One (by x y) (by y x)
   exactly_one x y = one' x y (by x y) refl
 
   -- what precedes z precedes all that do not
-  over' : (x y z : A) (q : Order) → by x z ≡ Precedes → by y z ≡ q → (q ≡ Precedes → ⊥) → by x y ≡ Precedes
+  over' : (x y z : A) (q : Ordering) → by x z ≡ Precedes → by y z ≡ q → (q ≡ Precedes → ⊥) → by x y ≡ Precedes
   over' x y z Precedes e f n = absurd (n refl)
-  over' x y z Equal e f n = o.flips y x ∙ ap flip (o.alike y z x f) ∙ sym (o.flips z x) ∙ e
-  over' x y z Follows e f n = o.carries x z y e (o.flips y z ∙ ap flip f)
+  over' x y z Equal e f n = o.antisymm x y ∙ ap ordering_reverse (o.congr y z x f) ∙ sym (o.antisymm x z) ∙ e
+  over' x y z Follows e f n = o.trans x z y e (o.antisymm z y ∙ ap ordering_reverse f)
 
   pub over : (x y z : A) → by x z ≡ Precedes → (by y z ≡ Precedes → ⊥) → by x y ≡ Precedes
   over x y z e n = over' x y z (by y z) e refl n
 
   pub preceded : (x y : A) → by x y ≡ Precedes → by y x ≡ Follows
-  preceded x y e = o.flips x y ∙ ap flip e
+  preceded x y e = o.antisymm y x ∙ ap ordering_reverse e
 
 -- what the test for precedes says
-pub before_is : (q : Order) → is_before q ≡ true → q ≡ Precedes
+pub before_is : (q : Ordering) → is_before q ≡ true → q ≡ Precedes
 before_is Precedes e = refl
 before_is Equal e = absurd (false≢true e)
 before_is Follows e = absurd (false≢true e)
@@ -69,10 +69,10 @@ pub record Ruled : Type 0 where
   pub octets : List ℕ
   pub rule : StoredRule
 
-abbrev pub ranked : Ruled → Ruled → Order
+abbrev pub ranked : Ruled → Ruled → Ordering
 ranked a b = rank_of a.values a.octets a.rule b.values b.octets b.rule
 
-pub rules_ordered : Ordered ranked
+pub rules_ordered : IsTotalOrder ranked
 unfolding rank_of
 rules_ordered = by_key ranked (in_turn rank_compared) (λ (a : Ruled). all_compared a.values a.octets a.rule) rank_ordered (λ x y. refl)
 
@@ -80,7 +80,7 @@ pub one_of_three : (a b : Ruled) → One (ranked a b) (ranked b a)
 one_of_three a b = exactly_one ranked rules_ordered a b
 
 pub through : (a b c : Ruled) → ranked a b ≡ Precedes → ranked b c ≡ Precedes → ranked a c ≡ Precedes
-through a b c = rules_ordered.carries a b c
+through a b c = rules_ordered.trans a b c
 
 -- ---- the document's words
 
@@ -91,7 +91,7 @@ in_words [] [] = sym (low_equal 0 0 refl)
 in_words [] (y ∷ ys) = sym (low_above (suc (length ys)) 0 (omega arith))
 in_words (x ∷ xs) [] = sym (low_below 0 (suc (length xs)) (omega arith))
 in_words (x ∷ xs) (y ∷ ys) =
-    ap (λ (o : Order). then_by (lower x y) o) (in_words xs ys ∙ ap (λ (o : Order). then_by (rank_octets (take (length ys) xs) (take (length xs) ys)) o) (sym (low_suc (length ys) (length xs) (way _ _))))
+    ap (λ (o : Ordering). then_by (lower x y) o) (in_words xs ys ∙ ap (λ (o : Ordering). then_by (rank_octets (take (length ys) xs) (take (length xs) ys)) o) (sym (low_suc (length ys) (length xs) (way _ _))))
     ∙ sym (then_assoc (lower x y) (rank_octets (take (length ys) xs) (take (length xs) ys)) (lower (suc (length ys)) (suc (length xs))))
 
 -- "Types 1 and 2 are prefixes": of one type two components are both prefixes or both lists
@@ -117,14 +117,14 @@ never_mixed ws at ws2 at2 e = by_type (quad_at ws at) ∙ ap (λ (t : ℕ). ltb 
 
 -- "10.0.0.0/8 precedes 11.0.0.0/16"; 10.1.0.0/16 precedes 10.0.0.0/8; two operators precede one alone, whose octet has the end mark
 pub worked : (rank_prefix (Ipv4 8 167772160) (Ipv4 16 184549376) ≡ Precedes) × (rank_prefix (Ipv4 16 167837696) (Ipv4 8 167772160) ≡ Precedes) × (rank_octets (1 ∷ 80 ∷ 129 ∷ 90 ∷ []) (129 ∷ 80 ∷ []) ≡ Precedes)
-unfolding rank_front in_turn lower
+unfolding rank_front in_turn
 worked = (refl, refl, refl)
 
 -- ---- equal rank
 
 abbrev pub Alike : Content → Content → Type 0
 Alike (prefixed p) (prefixed q) =
-    ((front_of p).offset ≡ (front_of q).offset) × ((front_of p).length ≡ (front_of q).length) × (leading_bits (front_of p).length (num (front_of p).address) ≡ leading_bits (front_of q).length (num (front_of q).address))
+    ((front_of p).offset ≡ (front_of q).offset) × ((front_of p).length ≡ (front_of q).length) × (leading_bits (front_of p).length (front_of p).address ≡ leading_bits (front_of q).length (front_of q).address)
 Alike (prefixed p) (listed ys) = ⊥
 Alike (listed xs) (prefixed q) = ⊥
 Alike (listed xs) (listed ys) = xs ≡ ys
@@ -149,19 +149,19 @@ octets_same [] = refl
 octets_same (x ∷ xs) = rw (low_equal x x refl) (octets_same xs)
 
 alike_prefix : (f g : Front) → rank_front f g ≡ Equal
-    → (f.offset ≡ g.offset) × (f.length ≡ g.length) × (leading_bits f.length (num f.address) ≡ leading_bits g.length (num g.address))
+    → (f.offset ≡ g.offset) × (f.length ≡ g.length) × (leading_bits f.length f.address ≡ leading_bits g.length g.address)
 unfolding rank_front
 alike_prefix f g e =
     let n = min f.length g.length in
     let o = lower f.offset g.offset in
-    let b = lower (leading_bits n (num f.address)) (leading_bits n (num g.address)) in
+    let b = lower (leading_bits n f.address) (leading_bits n g.address) in
     let l = lower g.length f.length in
     let t = then_second o (then_by b l) e in
     let len : f.length ≡ g.length = sym (equal_same g.length f.length (then_second b l t)) in
     let m : n ≡ f.length = min-eq_left (omega arith) in (
       equal_same f.offset g.offset (then_first o (then_by b l) e),
       len,
-      sym (ap (λ (k : ℕ). leading_bits k (num f.address)) m) ∙ equal_same _ _ (then_first b l t) ∙ ap (λ (k : ℕ). leading_bits k (num g.address)) (m ∙ len),
+      sym (ap (λ (k : ℕ). leading_bits k f.address) m) ∙ equal_same _ _ (then_first b l t) ∙ ap (λ (k : ℕ). leading_bits k g.address) (m ∙ len),
     )
 
 pub equal_length : (f g : Front) → rank_front f g ≡ Equal → f.length ≡ g.length
@@ -189,11 +189,11 @@ unfolding rank_of
 equal_rules a b e = equal_alike (all_compared a.values a.octets a.rule) (all_compared b.values b.octets b.rule) e
 
 -- and the other way
-prefix_alike : (f g : Front) → f.offset ≡ g.offset → f.length ≡ g.length → leading_bits f.length (num f.address) ≡ leading_bits g.length (num g.address) → rank_front f g ≡ Equal
+prefix_alike : (f g : Front) → f.offset ≡ g.offset → f.length ≡ g.length → leading_bits f.length f.address ≡ leading_bits g.length g.address → rank_front f g ≡ Equal
 unfolding rank_front
 prefix_alike f g o l b =
     let m : min f.length g.length ≡ f.length = min-eq_left (omega arith) in
-    let b' : leading_bits f.length (num f.address) ≡ leading_bits f.length (num g.address) = b ∙ ap (λ (k : ℕ). leading_bits k (num g.address)) (sym l) in
+    let b' : leading_bits f.length f.address ≡ leading_bits f.length g.address = b ∙ ap (λ (k : ℕ). leading_bits k g.address) (sym l) in
     rw (m, low_equal f.offset g.offset o, low_equal _ _ b', low_equal g.length f.length (sym l))
 
 content_alike : (c d : Content) → Alike c d → rank_content c d ≡ Equal

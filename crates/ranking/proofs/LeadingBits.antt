@@ -1,26 +1,23 @@
--- The bits that two addresses share from the front are the leading zeros of the exclusive-or of their halves; where fewer than n bits are shared,
+-- The bits that two addresses share from the front are the leading zeros of their exclusive-or; where fewer than n bits are shared,
 -- the first n bits are in the order of the whole addresses.
 use mathlib.Core.Path.{◌≡◌, sym, ap, ◌∙◌}
 use mathlib.Core.Logic.{⊎_elim}
-use Prim.Native.Nat.{ℕ, suc, ◌+◌, ◌-◌, ◌*◌, ◌/◌, ◌^◌, ◌≤◌, ◌<◌}
+use Prim.Native.Nat.{ℕ, suc, ◌%◌, ◌+◌, ◌-◌, ◌*◌, ◌/◌, ◌^◌, ◌≤◌, ◌<◌}
 use native.Mathlib.Nat.{lt_of_lt_of_le, pow-suc, div-eq_of_lt, lt-div-mul-add, add_left_cancel, le_of_suc-le-suc, le_antisymm, lt_of_not-le, div-one}
 use native.Mathlib.Omega.{arith}
 use lib.Pow.{pow_mono, pow_pos, shr-shr, shr_mono, shl-shr, high}
 use lib.Bits.{bit_xor, xor_shr, xor_self, xor_lt, xor_add_and, and_le_l, and_le_r}
 use lib.Count.{count_leading_zeros, leading_le, leading_length}
-use Rattle.ground.proofs.Cases.{lt_or_le}
-use Rattle.ground.proofs.Powers.{down_part}
 use Rattle.wide.specs.Numbers.{wide}
-use Rattle.wide.proofs.Halves.{past}
-use Rattle.ranking.specs.declared.Order.TheVariants.{Equal}
-use Rattle.ranking.specs.Ranks.{Shares, lower, leading_bits}
+use Rattle.wide.proofs.Shifts.{of_halves, past}
+use Rattle.ground.proofs.Powers.{down_part}
+use Rattle.ground.proofs.Cases.{lt_or_le}
+use Rattle.ranking.specs.Ranks.{Equal, Shares, lower, leading_bits}
 use Rattle.ranking.proofs.Orders.{Way, below, equal, above, way, low_below, low_equal, low_above}
 
 -- the first n of the k bits of a number
 abbrev top : ℕ → ℕ → ℕ → ℕ
 top k a n = a / 2 ^ (k - n)
-
--- ---- words
 
 -- an exclusive-or is 0 only of equal numbers
 xor_zero : (u v : ℕ) → bit_xor u v ≡ 0 → u ≡ v
@@ -55,9 +52,6 @@ shares k a b ha hb =
 pub shares_once : (k a b r s : ℕ) → Shares k a b r → Shares k a b s → r ≡ s
 shares_once k a b r s x y = le_antisymm (y.only r x.within (x.same r (omega arith))) (x.only s y.within (y.same s (omega arith)))
 
--- ---- two halves
-
--- the first bits of two halves
 upper : (h l : ℕ) {n : ℕ} → l < 2 ^ 64 → n ≤ 64 → top 128 (wide h l) n ≡ top 64 h n
 upper h l {n} b g =
     let e : 128 - n - 64 ≡ 64 - n = omega arith in
@@ -106,6 +100,27 @@ other_upper ah al bh bl s ha hb d g = record {
       (lt_or_le 64 n);
 }
 
+-- the same of two numbers, by their halves
+module _ (a b s : ℕ) {ah al bh bl : ℕ} (p : (ah ≡ a / 2 ^ 64) × (al ≡ a % 2 ^ 64)) (q : (bh ≡ b / 2 ^ 64) × (bl ≡ b % 2 ^ 64)) where
+  low_a : a % 2 ^ 64 < 2 ^ 64
+  low_a = omega arith
+
+  low_b : b % 2 ^ 64 < 2 ^ 64
+  low_b = omega arith
+
+  pub shares_low : ah ≡ bh → Shares 64 al bl s → Shares 128 a b (64 + s)
+  shares_low e g =
+      let h : b / 2 ^ 64 ≡ a / 2 ^ 64 = sym q.0 ∙ sym e ∙ p.0 in
+      let k : Shares 64 (a % 2 ^ 64) (b % 2 ^ 64) s = rw (sym p.1, sym q.1) g in
+      let z : wide (a / 2 ^ 64) (b % 2 ^ 64) ≡ b = ap (λ (x : ℕ). wide x (b % 2 ^ 64)) (sym h) ∙ of_halves b in
+      rw (of_halves a, z) at (same_upper (a / 2 ^ 64) (a % 2 ^ 64) (b % 2 ^ 64) s low_a low_b k)
+
+  pub shares_high : (ah ≡ bh → ⊥) → Shares 64 ah bh s → Shares 128 a b s
+  shares_high d g =
+      let k : Shares 64 (a / 2 ^ 64) (b / 2 ^ 64) s = rw (sym p.0, sym q.0) g in
+      let n : a / 2 ^ 64 ≡ b / 2 ^ 64 → ⊥ = λ e. d (p.0 ∙ e ∙ sym q.0) in
+      rw (of_halves a, of_halves b) at (other_upper (a / 2 ^ 64) (a % 2 ^ 64) (b / 2 ^ 64) (b % 2 ^ 64) s low_a low_b n k)
+
 -- ---- the order of the first n bits
 
 pub bits_shared : (a b r n : ℕ) → Shares 128 a b r → n ≤ r → Equal ≡ lower (leading_bits n a) (leading_bits n b)
@@ -131,29 +146,13 @@ whole_bits a b r n s h (above l) =
     low_above a b l
     ∙ sym (low_above (leading_bits n a) (leading_bits n b) (omega (arith, differ a b r n s h (λ e. omega arith), shr_mono {a = b} {b = a} (128 - n) (omega arith))))
 
--- the order of two addresses by their halves
-lows' : (h a b : ℕ) → Way a b → lower a b ≡ lower (wide h a) (wide h b)
-lows' h a b (below l) = low_below a b l ∙ sym (low_below (wide h a) (wide h b) (omega arith))
-lows' h a b (equal e) = low_equal a b e ∙ sym (low_equal (wide h a) (wide h b) (omega arith))
-lows' h a b (above l) = low_above a b l ∙ sym (low_above (wide h a) (wide h b) (omega arith))
-
-highs' : (ah al bh bl : ℕ) → al < 2 ^ 64 → bl < 2 ^ 64 → (ah ≡ bh → ⊥) → Way ah bh → lower ah bh ≡ lower (wide ah al) (wide bh bl)
-highs' ah al bh bl p q d (below l) = low_below ah bh l ∙ sym (low_below (wide ah al) (wide bh bl) (omega arith))
-highs' ah al bh bl p q d (equal e) = absurd (d e)
-highs' ah al bh bl p q d (above l) = low_above ah bh l ∙ sym (low_above (wide ah al) (wide bh bl) (omega arith))
-
-module _ (ah al bh bl r n : ℕ) (s : Shares 128 (wide ah al) (wide bh bl) r) (h : r < n) where
-  pub by_lows : ah ≡ bh → lower al bl ≡ lower (leading_bits n (wide ah al)) (leading_bits n (wide bh bl))
-  by_lows e = lows' ah al bl (way al bl) ∙ ap (λ (x : ℕ). lower (wide ah al) (wide x bl)) e ∙ whole_bits (wide ah al) (wide bh bl) r n s h (way _ _)
-
-  pub by_highs : al < 2 ^ 64 → bl < 2 ^ 64 → (ah ≡ bh → ⊥) → lower ah bh ≡ lower (leading_bits n (wide ah al)) (leading_bits n (wide bh bl))
-  by_highs p q d = highs' ah al bh bl p q d (way ah bh) ∙ whole_bits (wide ah al) (wide bh bl) r n s h (way _ _)
+pub bits_differ : (a b r n : ℕ) → Shares 128 a b r → r < n → lower a b ≡ lower (leading_bits n a) (leading_bits n b)
+bits_differ a b r n s h = whole_bits a b r n s h (way a b)
 
 -- of an IPv4 address, the first 32 of the 128 bits: its own first n
-pub first_ipv4 : (a n : ℕ) → n ≤ 32 → leading_bits n (wide (a * 2 ^ 32) 0) ≡ a / 2 ^ (32 - n)
+pub first_ipv4 : (a n : ℕ) → n ≤ 32 → leading_bits n (a * 2 ^ 96) ≡ a / 2 ^ (32 - n)
 first_ipv4 a n h =
-    let e : 128 - n - 64 ≡ 32 + (32 - n) = omega arith in
-    past (a * 2 ^ 32) 0 (128 - n) (omega arith) (omega arith)
-    ∙ ap (λ (j : ℕ). a * 2 ^ 32 / 2 ^ j) e
-    ∙ sym (shr-shr (a * 2 ^ 32) 32 (32 - n))
-    ∙ ap (λ (x : ℕ). x / 2 ^ (32 - n)) (shl-shr a 32)
+    let e : 128 - n ≡ 96 + (32 - n) = omega arith in
+    ap (λ (j : ℕ). a * 2 ^ 96 / 2 ^ j) e
+    ∙ sym (shr-shr (a * 2 ^ 96) 96 (32 - n))
+    ∙ ap (λ (x : ℕ). x / 2 ^ (32 - n)) (shl-shr a 96)

@@ -7,16 +7,14 @@ use native.Mathlib.Numerals.{add-one}
 use native.Mathlib.Omega.{arith}
 use lib.ListN.{length, get_or, drop, drop_of_length-le}
 use lib.Seq.{drop-cons}
-use Rattle.ranking.specs.declared.Order.{Order}
-use Rattle.ranking.specs.declared.Order.TheVariants.{Precedes, Equal, Follows}
-use Rattle.ranking.specs.Ranks.{lower, then_by, in_turn}
+use Rattle.ranking.specs.Ranks.{Ordering, Precedes, Equal, Follows, lower, then_by, in_turn}
 use Rattle.ranking.proofs.Orders.{Way, below, equal, above, way, low_below, low_equal, low_above}
 
 -- i of each are passed
-pub record Passed {A : Type 0} (by : A → A → Order) (xs ys : List A) (i : ℕ) : Type 0 where
+pub record Passed {A : Type 0} (by : A → A → Ordering) (xs ys : List A) (i : ℕ) : Type 0 where
   pub same : in_turn by xs ys ≡ in_turn by (drop i xs) (drop i ys)
 
-module _ {A : Type 0} (by : A → A → Order) (xs ys : List A) where
+module _ {A : Type 0} (by : A → A → Ordering) (xs ys : List A) where
   pub none_passed : Passed by xs ys 0
   none_passed = record { same = refl }
 
@@ -42,6 +40,6 @@ module _ {A : Type 0} (by : A → A → Order) (xs ys : List A) where
     pub one_ended : (d : A) → i ≤ min (length xs) (length ys) → min (length xs) (length ys) ≤ i → in_turn by xs ys ≡ lower (length ys) (length xs)
     one_ended d h k = ends d h k (way (length ys) (length xs))
 
-    pub next_tells : (d : A) → i < length xs → i < length ys → (o : Order) → by (get_or xs i d) (get_or ys i d) ≡ o → in_turn by xs ys ≡ then_by o (in_turn by (drop (i + 1) xs) (drop (i + 1) ys))
+    pub next_tells : (d : A) → i < length xs → i < length ys → (o : Ordering) → by (get_or xs i d) (get_or ys i d) ≡ o → in_turn by xs ys ≡ then_by o (in_turn by (drop (i + 1) xs) (drop (i + 1) ys))
     unfolding in_turn
     next_tells d h k o q = p.same ∙ rw (add-one i, drop-cons xs i d h, drop-cons ys i d k, q)

@@ -8,6 +8,7 @@ use mathlib.Core.Bool.{Bool, true, false}
 use mathlib.Core.List.{List, [], ◌∷◌}
 use native.Mathlib.Omega.{arith}
 use lib.ListN.{length, take, drop}
+use Rattle.std.specs.Prelude.{None, Some, Option}
 use Rattle.ground.specs.Answers.{Refused, Answer, accepts, refuses, refuses_at, answer_by, declines}
 use Rattle.ground.specs.Picks.{pick}
 use Rattle.octets.specs.declared.Length.{Length}
@@ -16,8 +17,6 @@ use Rattle.octets.specs.Lengths.{length_at}
 use Rattle.choices.specs.declared.Reading.{Reading}
 use Rattle.choices.specs.declared.Reading.TheVariants.{Plain, Ipv4, Ipv6}
 use Rattle.choices.specs.Choices.{bound_of, front_of, family_of}
-use Rattle.rules.specs.declared.Distinguisher.{Distinguisher}
-use Rattle.rules.specs.declared.Distinguisher.TheVariants.{Absent, Is}
 use Rattle.walk.specs.Walks.{Body, body, walk_from, walk_at}
 use Rattle.reading.specs.Readings.{ReadRule, read_rule, ruled, part, front_at, components_at, stated_at, after_length, too_long, read_at, roomed, read_into}
 use Rattle.reading.proofs.Laws.{Short, read_meets_lem}
@@ -68,17 +67,17 @@ module _ (s : List ℕ) (l : Length) (first : length_at s 0 ≡ accepts l) (fits
 
 -- ---- "The components' places count on from there"
 
-abbrev pub distinguished : Distinguisher → Answer ReadRule → Answer ReadRule
+abbrev pub distinguished : Option ℕ → Answer ReadRule → Answer ReadRule
 distinguished d (accepts x) = accepts (read_rule (body x.pieces x.operators) x.family d x.used)
 distinguished d (declines f) = declines f
 
-ruled_with : (family : ℕ) (d e : Distinguisher) (used : ℕ) (a : Answer Body) → ruled family d used a ≡ distinguished d (ruled family e used a)
+ruled_with : (family : ℕ) (d e : Option ℕ) (used : ℕ) (a : Answer Body) → ruled family d used a ≡ distinguished d (ruled family e used a)
 ruled_with family d e used (accepts b) = refl
 ruled_with family d e used (declines f) = refl
 
 -- the eight octets from a place on
-abbrev pub spelled_at : List ℕ → ℕ → Distinguisher
-spelled_at s at = Is (value_of (take 8 (drop at s)))
+abbrev pub spelled_at : List ℕ → ℕ → Option ℕ
+spelled_at s at = Some (value_of (take 8 (drop at s)))
 
 module _ (r : Reading) (front : front_of r true ≡ 8) (none : front_of r false ≡ 0) (s : List ℕ) (start size : ℕ) (fits : start + size ≤ length s) (long : 8 ≤ size) where
   stated_on : stated_at r true s start size ≡ distinguished (spelled_at s start) (stated_at r false s (start + 8) (size - 8))
@@ -88,18 +87,18 @@ module _ (r : Reading) (front : front_of r true ≡ 8) (none : front_of r false 
       let f : start + 8 + 0 ≡ start + 8 = omega arith in
       let g : size - 8 - 0 ≡ size - 8 = omega arith in
       stated_components r true s start size fits (omega arith) ∙ ap (λ (x : ℕ). components_at r x s start size) front
-      ∙ ruled_with (family_of r) (spelled_at s start) Absent (start + size) (answer_by (start + 8) (walk_at r (part s (start + 8) (bound_of r (length s) (start + size))) (size - 8)))
+      ∙ ruled_with (family_of r) (spelled_at s start) None (start + size) (answer_by (start + 8) (walk_at r (part s (start + 8) (bound_of r (length s) (start + size))) (size - 8)))
       ∙ ap (distinguished (spelled_at s start))
       (sym (stated_components r false s (start + 8) (size - 8) (omega arith) (omega arith) ∙ ap (λ (x : ℕ). components_at r x s (start + 8) (size - 8)) none
-      ∙ ap₂ (λ (x y : ℕ). ruled (family_of r) Absent x (answer_by y (walk_at r (part s y (bound_of r (length s) x)) (size - 8 - 0)))) e f
-      ∙ ap (λ (x : ℕ). ruled (family_of r) Absent (start + size) (answer_by (start + 8) (walk_at r (part s (start + 8) (bound_of r (length s) (start + size))) x))) g))
+      ∙ ap₂ (λ (x y : ℕ). ruled (family_of r) None x (answer_by y (walk_at r (part s y (bound_of r (length s) x)) (size - 8 - 0)))) e f
+      ∙ ap (λ (x : ℕ). ruled (family_of r) None (start + size) (answer_by (start + 8) (walk_at r (part s (start + 8) (bound_of r (length s) (start + size))) x))) g))
 
-empty_body : (r : Reading) → front_of r false ≡ 0 → (s : List ℕ) (start : ℕ) → start ≤ length s → stated_at r false s start 0 ≡ accepts (read_rule (body [] []) (family_of r) Absent start)
+empty_body : (r : Reading) → front_of r false ≡ 0 → (s : List ℕ) (start : ℕ) → start ≤ length s → stated_at r false s start 0 ≡ accepts (read_rule (body [] []) (family_of r) None start)
 unfolding front_at walk_at walk_from
 empty_body r none s start h =
     let e : start + 0 ≡ start = omega arith in
     stated_components r false s start 0 (omega arith) (omega arith) ∙ ap (λ (x : ℕ). components_at r x s start 0) none
-    ∙ ap (λ (x : ℕ). accepts (read_rule (body [] []) (family_of r) Absent x)) e
+    ∙ ap (λ (x : ℕ). accepts (read_rule (body [] []) (family_of r) None x)) e
 
 module _ (s : List ℕ) (l : Length) (first : length_at s 0 ≡ accepts l) (fits : l.next.at + l.size ≤ length s) (long : 8 ≤ l.size) where
   pub counts_on : (r : Reading) → (r ≡ Plain → ⊥) → read_at r true s ≡ distinguished (spelled_at s l.next.at) (stated_at r false s (l.next.at + 8) (l.size - 8))

@@ -9,6 +9,7 @@ use borrow.Author.Tests.{ltb-true, ltb-false}
 use lib.Dec.{ltb, leb, eqb}
 use lib.ListN.{length, get_or, drop, length-take, length-drop}
 use lib.Seq.{get_or-take, get_or-drop}
+use Rattle.std.specs.Prelude.{Option}
 use Rattle.ground.specs.Answers.{nowhere, at_octet, Refused, refused, moved_by, Answer, answer_by, accepts, declines}
 use Rattle.ground.proofs.Cases.{by_test}
 use Rattle.octets.specs.declared.Length.{Length}
@@ -17,7 +18,6 @@ use Rattle.octets.specs.Lengths.{length_at}
 use Rattle.choices.specs.declared.Reading.{Reading}
 use Rattle.choices.specs.declared.Reading.TheVariants.{Plain, Ipv4, Ipv6}
 use Rattle.choices.specs.Choices.{bound_of, front_of, family_of}
-use Rattle.rules.specs.declared.Distinguisher.{Distinguisher}
 use Rattle.walk.specs.Walks.{Body, walk_at}
 use Rattle.walk.proofs.Refusals.{walk_meets, Widened, Meets, Met, met_walk}
 use Rattle.walk.proofs.Chains.{Chain, used_up}
@@ -108,7 +108,7 @@ module _ (r : Reading) (rd : Bool) (s : List ℕ) where
       by_reading_lem Ipv4 = refl
       by_reading_lem Ipv6 = refl
 
-  met_moved : (from to family : ℕ) (d : Distinguisher) (used : ℕ) (a : Answer Body) → Met (Meets r (part s from to)) a → Met (ReadMeets r rd s) (ruled family d used (answer_by from a))
+  met_moved : (from to family : ℕ) (d : Option ℕ) (used : ℕ) (a : Answer Body) → Met (Meets r (part s from to)) a → Met (ReadMeets r rd s) (ruled family d used (answer_by from a))
   met_moved from to family d used (accepts b) h = tt
   met_moved from to family d used (declines f) h =
       record {

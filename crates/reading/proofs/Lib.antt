@@ -5,8 +5,8 @@ pub mod Stores
 pub mod Ways
 pub mod Bodies
 pub mod Walked
-pub mod Once
 pub mod Laws
+pub mod Once
 pub mod Places
 pub mod FixedWidths
 pub mod Distinguishers

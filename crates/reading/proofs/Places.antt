@@ -10,6 +10,7 @@ use native.Mathlib.Omega.{arith}
 use borrow.Author.Tests.{lt-ltb, le-ltb, ltb-true, ltb-false}
 use lib.Dec.{ltb}
 use lib.ListN.{length, take, length-take, length-drop}
+use Rattle.std.specs.Prelude.{Option}
 use Rattle.ground.specs.Answers.{nowhere, at_octet, place_by, Refused, refused, moved_by, Answer, accepts, refuses, refuses_at, answer_by, declines}
 use Rattle.ground.specs.Picks.{pick}
 use Rattle.ground.proofs.Answers.{never, same_refusal}
@@ -21,7 +22,6 @@ use Rattle.octets.proofs.Places.{length_breaks, length_short, length_most, lengt
 use Rattle.choices.specs.declared.Reading.{Reading}
 use Rattle.choices.specs.declared.Reading.TheVariants.{Plain, Ipv4, Ipv6}
 use Rattle.choices.specs.Choices.{bound_of, front_of, family_of}
-use Rattle.rules.specs.declared.Distinguisher.{Distinguisher}
 use Rattle.prefixes.proofs.Accepted.{Octets}
 use Rattle.prefixes.proofs.Places.{behind}
 use Rattle.walk.specs.Walks.{Body, walk_at}
@@ -66,7 +66,7 @@ place_in e = cc
 
 -- ---- after a length that is there
 
-ruled_refused : (family : ℕ) (d : Distinguisher) (used start : ℕ) (a : Answer Body) {f : Refused} {A : Type 0} → ruled family d used (answer_by start a) ≡ declines f
+ruled_refused : (family : ℕ) (d : Option ℕ) (used start : ℕ) (a : Answer Body) {f : Refused} {A : Type 0} → ruled family d used (answer_by start a) ≡ declines f
     → ((g : Refused) → a ≡ declines g → moved_by start g ≡ f → A) → A
 ruled_refused family d used start (accepts b) e k = never (sym e)
 ruled_refused family d used start (declines g) e k = k g refl (same_refusal e)

@@ -3,19 +3,25 @@
 use Prim.Native.Nat.{ℕ, ◌≤◌, ◌<◌}
 use mathlib.Core.Path.{◌≡◌, refl, sym, ◌∙◌, ap}
 use mathlib.Core.Bool.{Bool, true}
+use mathlib.Core.Logic.{⊎_elim}
 use mathlib.Core.List.{List, [], ◌∷◌}
 use native.Mathlib.Omega.{arith}
-use borrow.Author.Tests.{lt-ltb, le-ltb, ltb-true, ltb-false, leb-true, leb-false, eq-eqb, ne_eqb}
-use lib.Dec.{ltb, leb, eqb}
+use borrow.Author.Tests.{lt-ltb, le-ltb, ltb-false, leb-true, leb-false}
+use lib.Dec.{ltb, leb}
 use lib.ListN.{length}
+use Rattle.std.specs.Prelude.{Some, None, ◌⊎◌}
 use Rattle.ground.proofs.Answers.{never}
 use Rattle.ground.proofs.Cases.{by_test}
 use Rattle.ground.specs.Answers.{Answer, Refused, accepts, refuses, declines}
-use Rattle.ground.specs.Picks.{pick}
 use Rattle.choices.specs.declared.Reading.{Reading}
 use Rattle.lists.specs.Runs.{Places}
-use Rattle.reading.specs.Readings.{ReadRule, read_at, shorter, roomed, read_into, Taken, taken, taken_of}
+use Rattle.reading.specs.declared.Taken.{Taken}
+use Rattle.reading.specs.Readings.{ReadRule, read_at, shorter, roomed, read_into, taken, taken_of}
 use Rattle.reading.specs.Parts.{is_read, rule_in, read_of, lacking_of}
+
+-- room is lacking, or it is not
+some_none : {A : Type 0} {k : ℕ} → None ≡ Some k → A
+some_none e = absurd (cc)
 
 -- the shorter of two
 module _ (m n k : ℕ) where
@@ -36,46 +42,47 @@ module _ (m n k : ℕ) where
 
 -- each return of `lacking`
 module _ (n words values octets : ℕ) where
-  pub lacks_words : words < 64 → 1 ≡ lacking_of n words values octets
+  pub lacks_words : words < 64 → Some 1 ≡ lacking_of n words values octets
   unfolding lacking_of
   lacks_words h = simp (lt-ltb words 64 h)
 
   module _ (w : 64 ≤ words) where
-    lacks_places : shorter values octets < n → n ≡ lacking_of n words values octets
+    lacks_places : shorter values octets < n → Some n ≡ lacking_of n words values octets
     unfolding lacking_of
     lacks_places h = simp (le-ltb words 64 w, lt-ltb (shorter values octets) n h)
 
-    pub lacks_values : values < n → n ≡ lacking_of n words values octets
-    lacks_values h = lacks_places (short_first values octets n h)
+    pub lacks_either : (values < n) ⊎ ((n ≤ values) × (octets < n)) → Some n ≡ lacking_of n words values octets
+    lacks_either = ⊎_elim (λ h. lacks_places (short_first values octets n h)) (λ h. lacks_places (short_second values octets n h.1))
 
-    pub lacks_octets : octets < n → n ≡ lacking_of n words values octets
-    lacks_octets h = lacks_places (short_second values octets n h)
-
-    pub lacks_none : n ≤ values → n ≤ octets → 0 ≡ lacking_of n words values octets
+    pub lacks_none : n ≤ values → n ≤ octets → None ≡ lacking_of n words values octets
     unfolding lacking_of
     lacks_none h l = simp (le-ltb words 64 w, le-ltb (shorter values octets) n (long_both values octets n h l))
 
   -- where nothing is lacking there is room
-  pub enough : lacking_of n words values octets ≡ 0 → (64 ≤ words) × ((n ≤ values) × (n ≤ octets))
+  pub enough : None ≡ lacking_of n words values octets → (64 ≤ words) × ((n ≤ values) × (n ≤ octets))
   unfolding lacking_of
   enough e =
       by_test (ltb words 64)
-      (λ t. let z = rw t at e in absurd (omega arith))
+      (λ t. let z = rw t at e in some_none z)
       (λ f. by_test (ltb (shorter values octets) n)
-      (λ t. let z = rw (f, t) at e in let l = ltb-true (shorter values octets) n t in absurd (omega arith))
+      (λ t. let z = rw (f, t) at e in some_none z)
       (λ g. (ltb-false words 64 f, both_long values octets n (ltb-false (shorter values octets) n g))))
 
 -- what a rule is with so much room, by what is lacking
-pub roomed_by : (r : ReadRule) (words values octets : ℕ)
-    → roomed (accepts r) words values octets
-    ≡ pick (eqb (lacking_of (length r.operators) words values octets) 0) (accepts r) (refuses 9 (lacking_of (length r.operators) words values octets ∷ []))
-unfolding lacking_of
-roomed_by r words values octets =
-    by_test (ltb words 64)
-    (λ t. rw t)
-    (λ f. by_test (ltb (shorter values octets) (length r.operators))
-    (λ t. let l = ltb-true (shorter values octets) (length r.operators) t in let z : length r.operators ≡ 0 → ⊥ = λ e. omega arith in rw (f, t, ne_eqb (length r.operators) 0 z))
-    (λ g. rw (f, g)))
+module _ (r : ReadRule) (words values octets : ℕ) where
+  pub roomed_lacking : {k : ℕ} → Some k ≡ lacking_of (length r.operators) words values octets → roomed (accepts r) words values octets ≡ refuses 9 (k ∷ [])
+  unfolding lacking_of
+  roomed_lacking {k} e =
+      by_test (ltb words 64)
+      (λ t. let z = rw t at e in let k_is : k ≡ 1 = cc in rw (t, k_is))
+      (λ f. by_test (ltb (shorter values octets) (length r.operators))
+      (λ t. let z = rw (f, t) at e in let k_is : k ≡ length r.operators = cc in rw (f, t, k_is))
+      (λ g. let z = rw (f, g) at e in some_none (sym z)))
+
+  pub roomed_whole : None ≡ lacking_of (length r.operators) words values octets → roomed (accepts r) words values octets ≡ accepts r
+  roomed_whole e =
+      let m = enough (length r.operators) words values octets e in
+      simp (le-ltb words 64 m.0, le-ltb (shorter values octets) (length r.operators) (long_both values octets (length r.operators) m.1.0 m.1.1))
 
 -- what is behind what was taken
 untaken_refused : (a : Answer ReadRule) {f : Refused} → declines f ≡ taken_of a → a ≡ declines f
@@ -107,19 +114,23 @@ module _ (r : Reading) (rd : Bool) (s : List ℕ) (words values octets : ℕ) wh
   into_refused e = by_read (untaken_refused (read_at r rd s) e)
 
   -- one that is accepted goes by what is lacking
-  module _ {u n : ℕ} (q : accepts (taken u n) ≡ taken_of (read_at r rd s)) {k : ℕ} (e : k ≡ lacking_of n words values octets) where
-    into_by : read_into r rd s words values octets ≡ pick (eqb k 0) (accepts (read_of r rd s)) (refuses 9 (k ∷ []))
-    into_by = rw (e, ← counted_in_lem r rd s q) (by_read (untaken (read_at r rd s) q).1.0 ∙ roomed_by (read_of r rd s) words values octets)
+  module _ {u n : ℕ} (q : accepts (taken u n) ≡ taken_of (read_at r rd s)) where
+    into_by : read_into r rd s words values octets ≡ roomed (accepts (read_of r rd s)) words values octets
+    into_by = by_read (untaken (read_at r rd s) q).1.0
 
-    pub into_lacking : (k ≡ 0 → ⊥) → read_into r rd s words values octets ≡ refuses 9 (k ∷ [])
-    into_lacking z = into_by ∙ simp (ne_eqb k 0 z)
+    pub into_lacking : {k : ℕ} → Some k ≡ lacking_of n words values octets → read_into r rd s words values octets ≡ refuses 9 (k ∷ [])
+    into_lacking {k} e =
+        let z : Some k ≡ lacking_of (length (read_of r rd s).operators) words values octets = rw (counted_in_lem r rd s q) e in
+        into_by ∙ roomed_lacking (read_of r rd s) words values octets z
 
-    module _ (z : k ≡ 0) where
+    module _ (e : None ≡ lacking_of n words values octets) where
       pub into_roomed : read_into r rd s words values octets ≡ accepts (read_of r rd s)
-      into_roomed = into_by ∙ simp (eq-eqb k 0 z)
+      into_roomed =
+          let z : None ≡ lacking_of (length (read_of r rd s).operators) words values octets = rw (counted_in_lem r rd s q) e in
+          into_by ∙ roomed_whole (read_of r rd s) words values octets z
 
       pub room : (64 ≤ words) × Places 0 (length (read_of r rd s).operators) values octets
       room =
-          let m = enough n words values octets (sym e ∙ z) in
+          let m = enough n words values octets e in
           let i = counted_in_lem r rd s q in
           (m.0, record { in_values = omega arith; in_octets = omega arith })

@@ -6,12 +6,12 @@ use mathlib.Core.Bool.{Bool, true, false}
 use mathlib.Core.List.{List, []}
 use borrow.Author.Tests.{lt-ltb, le-ltb, eq-eqb, ne_eqb}
 use lib.ListN.{length, take, drop}
+use Rattle.std.specs.Prelude.{None, Some}
 use Rattle.ground.specs.Answers.{refuses_at}
 use Rattle.octets.specs.Spell.{value_of}
 use Rattle.choices.specs.declared.Reading.{Reading}
 use Rattle.choices.specs.declared.Reading.TheVariants.{Plain, Ipv4, Ipv6}
 use Rattle.choices.specs.Choices.{expects, front_of}
-use Rattle.rules.specs.declared.Distinguisher.TheVariants.{Absent, Is}
 use Rattle.reading.specs.Readings.{front_at, components_at, stated_at}
 
 module _ (r : Reading) (rd : Bool) (s : List ℕ) (start size : ℕ) where
@@ -49,10 +49,10 @@ front_eight Ipv6 true h = refl
 front_eight Ipv6 false h = absurd (h refl)
 
 module _ (s : List ℕ) (at front : ℕ) where
-  pub front_none : front ≡ 0 → Absent ≡ front_at front s at
+  pub front_none : front ≡ 0 → None ≡ front_at front s at
   unfolding front_at
   front_none h = rw (eq-eqb front 0 h)
 
-  pub front_is : (front ≡ 0 → ⊥) → Is (value_of (take 8 (drop at s))) ≡ front_at front s at
+  pub front_is : (front ≡ 0 → ⊥) → Some (value_of (take 8 (drop at s))) ≡ front_at front s at
   unfolding front_at
   front_is h = rw (ne_eqb front 0 h)

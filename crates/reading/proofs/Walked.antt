@@ -7,7 +7,11 @@ use native.Mathlib.Omega.{arith}
 use borrow.Author.Tests.{ltb-false, leb-false}
 use lib.Dec.{ltb, leb}
 use lib.ListN.{length, get_or, take, drop}
-use lib.Seq.{get_or-drop}
+use lib.Seq.{get_or-drop, sets}
+use Rattle.std.specs.Prelude.{None, Option}
+use Rattle.stored.specs.Stored.{head, rule_words}
+use Rattle.stored.specs.Distinguishers.{distinguished_with}
+use Rattle.stored.proofs.Words.{rule_distinguished}
 use Rattle.ground.proofs.Answers.{never, same_accepted}
 use Rattle.ground.specs.Answers.{Answer, answer_by, accepts, declines}
 use Rattle.ground.proofs.Cases.{by_test}
@@ -111,23 +115,22 @@ starts s {l} e =
     (λ t. never (rw (f, k, t) at e))
     (λ g. let n = after_of (rw (f, k, g) at e) in let i = leb-false (length s) 0 f in (omega arith, rw k (sym n)))))
 
--- what the second pass goes by, once an input was tested
-pub record Tested (r : Reading) (rd : Bool) (s : List ℕ) (used : ℕ) : Type 0 where
+-- what the second pass goes by, once an input was tested: where its length ends, how many octets stand before the first component, and where its part ends
+pub record Tested (r : Reading) (rd : Bool) (s : List ℕ) (used at front end : ℕ) : Type 0 where
   pub some : 0 < length s
-  pub front : body_start (get_or s 0 0) + front_of r rd ≤ length s
-  pub start : body_start (get_or s 0 0) + front_of r rd ≤ used
-  pub within : (body_start (get_or s 0 0) + front_of r rd ≤ bound_of r (length s) used) × (bound_of r (length s) used ≤ length s)
-  pub walked : is_body (walk_at r (part s (body_start (get_or s 0 0) + front_of r rd) (bound_of r (length s) used)) (used - (body_start (get_or s 0 0) + front_of r rd))) ≡ true
-  pub is : read_of r rd s
-      ≡ read_rule (body_at r (part s (body_start (get_or s 0 0) + front_of r rd) (bound_of r (length s) used)) (used - (body_start (get_or s 0 0) + front_of r rd))) (family_of r)
-      (front_at (front_of r rd) s (body_start (get_or s 0 0))) used
+  pub fits : at + front ≤ length s
+  pub start : at + front ≤ used
+  pub within : (at + front ≤ end) × (end ≤ length s)
+  pub walked : is_body (walk_at r (part s (at + front) end) (used - (at + front))) ≡ true
+  pub is : read_of r rd s ≡ read_rule (body_at r (part s (at + front) end) (used - (at + front))) (family_of r) (front_at front s at) used
 
 read_in_lem : (a : Answer ReadRule) → is_read a ≡ true → a ≡ accepts (rule_in a)
 read_in_lem (accepts x) e = refl
 read_in_lem (declines f) e = let z : ◌≡◌ {A = ℕ} 0 1 = cc in absurd (omega arith)
 
-pub tested_read : (r : Reading) (rd : Bool) (s : List ℕ) {used : ℕ} → is_read (read_at r rd s) ≡ true → used ≡ (read_of r rd s).used → Tested r rd s used
-tested_read r rd s {used} h u =
+tested : (r : Reading) (rd : Bool) (s : List ℕ) {used : ℕ} → is_read (read_at r rd s) ≡ true → used ≡ (read_of r rd s).used
+    → Tested r rd s used (body_start (get_or s 0 0)) (front_of r rd) (bound_of r (length s) used)
+tested r rd s {used} h u =
     let w = read_walked r rd s (read_of r rd s) (read_in_lem (read_at r rd s) h) in
     let a = body_start (get_or s 0 0) in
     let b = w.stated.next.at in
@@ -144,10 +147,23 @@ tested_read r rd s {used} h u =
     (subst (λ (z : ℕ). walk_at r (part s (b + m) (bound_of r (length s) (b + w.stated.size))) z ≡ accepts w.given) g w.walked)) in
     record {
       some = k.0;
-      front = omega arith;
+      fits = omega arith;
       start = omega arith;
       within = bound_in r (length s) (a + m) used (omega arith) (omega arith);
       walked = ap is_body q;
       is = sym w.is ∙ ap₂ (λ (x y : ℕ). read_rule w.given (family_of r) (front_at m s x) y) e f
           ∙ ap (λ (x : Answer Body). read_rule (body_in x) (family_of r) (front_at m s a) used) (sym q);
     }
+
+-- by what the code has computed
+pub tested_read : (r : Reading) (rd : Bool) (s : List ℕ) {used at front end : ℕ} → at ≡ body_start (get_or s 0 0) → front ≡ front_of r rd → end ≡ bound_of r (length s) used
+    → is_read (read_at r rd s) ≡ true → used ≡ (read_of r rd s).used → Tested r rd s used at front end
+tested_read r rd s a f b h u = rw (a, f, b) (tested r rd s h u)
+
+-- the words that the second pass stores, and a distinguisher over them, are those of the rule that was read
+pub words_tested : (r : Reading) (rd : Bool) (s : List ℕ) (used at front end : ℕ) → Tested r rd s used at front end → (words : List ℕ) (first : ℕ) {stored : List ℕ} {d : Option ℕ}
+    → stored ≡ sets words 0 (rule_words (body_at r (part s (at + front) end) (used - (at + front))).pieces (head (family_of r) first None))
+    → length (body_at r (part s (at + front) end) (used - (at + front))).pieces ≤ 13 → d ≡ front_at front s at
+    → distinguished_with d stored 0 ≡ sets words 0 (rule_words (read_of r rd s).pieces (head (read_of r rd s).family first (read_of r rd s).distinguisher))
+words_tested r rd s used at front end t words first e few f =
+    rw (t.is, e, f) (rule_distinguished words 0 (family_of r) first (body_at r (part s (at + front) end) (used - (at + front))).pieces few (front_at front s at))

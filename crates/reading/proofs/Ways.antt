@@ -8,8 +8,7 @@ use lib.ListN.{length, get_or, length-take, length-drop}
 use lib.Seq.{sets}
 use Rattle.ground.specs.Answers.{Answer, Refused, at_octet, answer_by, accepts, refuses, refuses_at, declines}
 use Rattle.ground.proofs.Answers.{never}
-use Rattle.refusals.specs.declared.Place.{Place}
-use Rattle.refusals.specs.declared.Place.TheVariants.{Nowhere, Octet}
+use Rattle.std.specs.Prelude.{Option, None, Some}
 use Rattle.refusals.specs.declared.Fault.{Fault}
 use Rattle.refusals.specs.Refusals.{place_of, told, Movable}
 use Rattle.octets.specs.declared.Length.{Length}
@@ -17,15 +16,15 @@ use Rattle.octets.specs.Lengths.{length_at, length_width, length_value}
 use Rattle.octets.proofs.Lengths.{field_whole}
 use Rattle.choices.specs.declared.Reading.{Reading}
 use Rattle.choices.specs.declared.Reading.TheVariants.{Plain, Ipv4, Ipv6}
-use Rattle.choices.specs.Choices.{bound_of, front_of, family_of, standard_of}
+use Rattle.choices.specs.Choices.{expects, bound_of, front_of, family_of, standard_of}
 use Rattle.operators.specs.Ops.{octet_of, number_of}
-use Rattle.rules.specs.declared.Distinguisher.{Distinguisher}
 use Rattle.stored.specs.Stored.{head, rule_words}
 use Rattle.walk.specs.Walks.{Body, walk_at, counted}
 use Rattle.walk.proofs.Places.{walk_breaks}
-use Rattle.reading.specs.Readings.{ReadRule, ruled, part, front_at, stated_at, after_length, too_long, read_at, read_into, by_reading, standard_into, Taken, taken, taken_of, words_of, operators_of}
+use Rattle.reading.specs.declared.Taken.{Taken}
+use Rattle.reading.specs.Readings.{ReadRule, ruled, part, front_at, stated_at, after_length, too_long, read_at, read_into, by_reading, standard_into, taken, taken_of, words_of, operators_of}
 use Rattle.reading.specs.Parts.{read_of, lacking_of}
-use Rattle.reading.proofs.Stated.{stated_past, stated_short, stated_components}
+use Rattle.reading.proofs.Stated.{told_so, told_not, stated_past, stated_short, stated_components}
 use Rattle.reading.proofs.Rooms.{into_refused, into_lacking, into_roomed, tested, counted_in_lem}
 
 -- what a reading answers and leaves
@@ -52,7 +51,7 @@ abbrev pub taken_by : ℕ → Answer ℕ → Answer Taken
 taken_by used (accepts n) = accepts (taken used n)
 taken_by used (declines f) = declines f
 
-taken_ruled : (family : ℕ) (d : Distinguisher) (used start : ℕ) (a : Answer Body) → taken_by used (answer_by start (counted a)) ≡ taken_of (ruled family d used (answer_by start a))
+taken_ruled : (family : ℕ) (d : Option ℕ) (used start : ℕ) (a : Answer Body) → taken_by used (answer_by start (counted a)) ≡ taken_of (ruled family d used (answer_by start a))
 taken_ruled family d used start (accepts b) = refl
 taken_ruled family d used start (declines f) = refl
 
@@ -76,14 +75,28 @@ module _ (r : Reading) (rd : Bool) (s : List ℕ) (start size : ℕ) (in-input :
           whole : ruled (family_of r) (front_at (front_of r rd) s start) (start + size) (answer_by from (walk_at r (part s from end) left)) ≡ stated_at r rd s start size
           whole = rw (f, l, e) (sym (stated_components r rd s start size (omega arith) k))
 
+-- where the components start, with a distinguisher before them and without
+module _ (r : Reading) (mode start size : ℕ) {from left : ℕ} where
+  pub so_front : mode ≡ 2 → {front : ℕ} → front ≡ front_of r true → front ≤ size → from ≡ start + front → left ≡ size - front
+      → (from ≡ start + front_of r (expects mode)) × (left ≡ size - front_of r (expects mode)) × (front_of r (expects mode) ≤ size)
+  so_front h f k x y = let e = told_so r h in (omega (arith, e, f, x), omega (arith, e, f, y), omega (arith, e, f, k))
+
+  pub no_front : (mode ≡ 2 → ⊥) → from ≡ start → left ≡ size
+      → (from ≡ start + front_of r (expects mode)) × (left ≡ size - front_of r (expects mode)) × (front_of r (expects mode) ≤ size)
+  no_front h x y = let e = told_not r h in (omega (arith, e, x), omega (arith, e, y), omega (arith, e))
+
+  pub bound_at : (n : ℕ) → (from ≡ start + front_of r (expects mode)) × (left ≡ size - front_of r (expects mode)) × (front_of r (expects mode) ≤ size) → size ≤ n - start → start ≤ n
+      → {end : ℕ} → end ≡ bound_of r n (start + size) → (from ≤ end) × (end ≤ n)
+  bound_at n k h l e = rw e (bound_in r n from (start + size) (omega (arith, k.0, k.2)) (omega arith))
+
 -- a refusal of the walk has its place within the part, so that it can be moved by the part's start
 uncounted : (a : Answer Body) {f : Refused} → declines f ≡ counted a → a ≡ declines f
 uncounted (accepts b) e = never e
 uncounted (declines g) e = cc
 
-movable_at : (start : ℕ) (p : Place) {n : ℕ} → place_of p ≡ at_octet n → start + n < 2 ^ 64 → Movable start p
-movable_at start Nowhere e h = tt
-movable_at start (Octet at) {n} e h = let z : at ≡ n = cc in omega arith
+movable_at : (start : ℕ) (p : Option ℕ) {n : ℕ} → place_of p ≡ at_octet n → start + n < 2 ^ 64 → Movable start p
+movable_at start None e h = tt
+movable_at start (Some at) {n} e h = let z : at ≡ n = cc in omega arith
 
 pub walk_movable : (r : Reading) (s : List ℕ) (start size end : ℕ) → start ≤ end → end ≤ length s → length s < 2 ^ 64
     → (f : Fault) → declines (told f) ≡ counted (walk_at r (part s start end) size) → Movable start f.place
@@ -123,14 +136,14 @@ module _ (r : Reading) (rd : Bool) (s ws vs os : List ℕ) where
   pub test_refused : {f : Refused} → declines f ≡ taken_of (read_at r rd s) → Post answer ws vs os (declines f) ws vs os
   test_refused e = refused answer (into_refused r rd s (length ws) (length vs) (length os) e) ws vs os
 
-  module _ {u n : ℕ} (q : accepts (taken u n) ≡ taken_of (read_at r rd s)) {k : ℕ} (e : k ≡ lacking_of n (length ws) (length vs) (length os)) where
-    pub no_room : (k ≡ 0 → ⊥) → Post answer ws vs os (refuses 9 (k ∷ [])) ws vs os
-    no_room z = refused answer (into_lacking r rd s (length ws) (length vs) (length os) q e z) ws vs os
+  module _ {u n : ℕ} (q : accepts (taken u n) ≡ taken_of (read_at r rd s)) where
+    pub no_room : {k : ℕ} → Some k ≡ lacking_of n (length ws) (length vs) (length os) → Post answer ws vs os (refuses 9 (k ∷ [])) ws vs os
+    no_room e = refused answer (into_lacking r rd s (length ws) (length vs) (length os) q e) ws vs os
 
-    pub all_stored : k ≡ 0 → {ws' vs' os' : List ℕ} → ws' ≡ sets ws 0 (rule_words (read_of r rd s).pieces (head (read_of r rd s).family 0 (read_of r rd s).distinguisher))
+    pub all_stored : None ≡ lacking_of n (length ws) (length vs) (length os) → {ws' vs' os' : List ℕ} → ws' ≡ sets ws 0 (rule_words (read_of r rd s).pieces (head (read_of r rd s).family 0 (read_of r rd s).distinguisher))
         → vs' ≡ sets vs 0 (map number_of (read_of r rd s).operators) → os' ≡ sets os 0 (map octet_of (read_of r rd s).operators)
         → Post answer ws vs os (accepts (taken u n)) ws' vs' os'
-    all_stored z x y w = rw (tested r rd s q).1 (filled answer (into_roomed r rd s (length ws) (length vs) (length os) q e z) ws vs os (counted_in_lem r rd s q) x y w)
+    all_stored e x y w = rw (tested r rd s q).1 (filled answer (into_roomed r rd s (length ws) (length vs) (length os) q e) ws vs os (counted_in_lem r rd s q) x y w)
 
 module _ (family : ℕ) (rd : Bool) (s ws vs os : List ℕ) where
   standard_is : {a : Answer Reading} → a ≡ standard_of family → standard_into family rd s (length ws) (length vs) (length os) ≡ by_reading a rd s (length ws) (length vs) (length os)

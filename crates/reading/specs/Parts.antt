@@ -1,10 +1,9 @@
 -- What the functions of the second walk promise each other. They store what the first walk accepted, so they ask that it did. No promise of
 -- an entry point rests on these but through `Readings`.
-use Rattle.std.specs.Prelude.{ℕ, ◌+◌, ◌≤◌, ◌<◌, ◌≡◌, Bool, true, false, List, [], length, get_or, ltb}
+use Rattle.std.specs.Prelude.{ℕ, ◌+◌, ◌≤◌, ◌<◌, ◌≡◌, Bool, true, false, List, [], length, get_or, ltb, None, Some, Option}
 use Rattle.ground.specs.Picks.{pick}
 use Rattle.ground.specs.Answers.{Answer, accepts, declines}
 use Rattle.choices.specs.declared.Reading.{Reading}
-use Rattle.rules.specs.declared.Distinguisher.TheVariants.{Absent}
 use Rattle.stored.specs.declared.Piece.TheVariants.{NoRecord}
 use Rattle.octets.specs.Lengths.{length_width}
 use Rattle.reading.specs.Readings.{ReadRule, read_rule, read_at, shorter}
@@ -51,7 +50,7 @@ is_read (declines f) = false
 
 abbrev pub rule_in : Answer ReadRule → ReadRule
 rule_in (accepts r) = r
-rule_in (declines f) = read_rule (body [] []) 0 Absent 0
+rule_in (declines f) = read_rule (body [] []) 0 None 0
 
 abbrev pub read_of : Reading → Bool → List ℕ → ReadRule
 read_of reading expected s = rule_in (read_at reading expected s)
@@ -60,7 +59,7 @@ read_of reading expected s = rule_in (read_at reading expected s)
 abbrev pub body_start : ℕ → ℕ
 body_start octet = length_width octet
 
--- what lent lists of so many words, values and octets lack for a rule with so many operators: 0 where there is room, else the rule places or the
+-- what lent lists of so many words, values and octets lack for a rule with so many operators: nothing, or the rule places or the
 -- operator places that `roomed` carries
-unfoldable pub lacking_of : ℕ → ℕ → ℕ → ℕ → ℕ
-lacking_of operators words values octets = pick (ltb words 64) 1 (pick (ltb (shorter values octets) operators) operators 0)
+unfoldable pub lacking_of : ℕ → ℕ → ℕ → ℕ → Option ℕ
+lacking_of operators words values octets = pick (ltb words 64) (Some 1) (pick (ltb (shorter values octets) operators) (Some operators) None)

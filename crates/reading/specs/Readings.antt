@@ -1,10 +1,9 @@
 -- What each reading gives: document 01, "The length and the component walk", "The plain reading", "The standard reading", "Rules of virtual
 -- networks" and "What comes back"; RFC 8955, 4.1 and 8. `read_at` is what an input is to a reading, by itself; `read_into` what it is with so much room lent. All that an
 -- entry point answers and leaves behind is told from that one answer.
-use Rattle.std.specs.Prelude.{ℕ, ◌+◌, ◌-◌, Bool, false, List, [], ◌∷◌, length, take, drop, ltb, leb, eqb}
+use Rattle.std.specs.Prelude.{ℕ, ◌+◌, ◌-◌, Bool, false, List, [], ◌∷◌, length, take, drop, ltb, leb, eqb, None, Some, Option}
 use Rattle.ground.specs.Answers.{Answer, accepts, refuses, refuses_at, answer_by, declines}
 use Rattle.ground.specs.Picks.{pick}
-use Rattle.refusals.specs.Refusals.{refusal}
 use Rattle.octets.specs.declared.Length.{Length}
 use Rattle.octets.specs.Lengths.{length_at}
 use Rattle.octets.specs.Spell.{value_of}
@@ -12,26 +11,23 @@ use Rattle.choices.specs.declared.Reading.{Reading}
 use Rattle.choices.specs.declared.Reading.TheVariants.{Plain, Ipv4, Ipv6}
 use Rattle.choices.specs.Choices.{bound_of, front_of, family_of, standard_of}
 use Rattle.operators.specs.Ops.{Op}
-use Rattle.rules.specs.declared.Distinguisher.{Distinguisher}
-use Rattle.rules.specs.declared.Distinguisher.TheVariants.{Absent, Is}
 use Rattle.stored.specs.declared.Piece.{Piece}
 use Rattle.stored.specs.Stored.{head, rule_words}
 use Rattle.walk.specs.Walks.{Body, walk_at}
-use Rattle.reading.specs.declared.ReadInto.{ReadInto}
-use Rattle.reading.specs.declared.ReadInto.TheVariants.{Read, Refused}
+use Rattle.reading.specs.declared.Taken.{Taken}
 
 -- a rule that was read: its pieces and operators, its family (0 is a plain rule), its distinguisher, and the octets that it used
 pub record ReadRule : Type 0 where
   pub pieces : List Piece
   pub operators : List Op
   pub family : ℕ
-  pub distinguisher : Distinguisher
+  pub distinguisher : Option ℕ
   pub used : ℕ
 
-abbrev pub read_rule : Body → ℕ → Distinguisher → ℕ → ReadRule
+abbrev pub read_rule : Body → ℕ → Option ℕ → ℕ → ReadRule
 read_rule b family d used = record { pieces = b.pieces; operators = b.operators; family = family; distinguisher = d; used = used }
 
-abbrev pub ruled : ℕ → Distinguisher → ℕ → Answer Body → Answer ReadRule
+abbrev pub ruled : ℕ → Option ℕ → ℕ → Answer Body → Answer ReadRule
 ruled family d used (accepts b) = accepts (read_rule b family d used)
 ruled family d used (declines f) = declines f
 
@@ -40,8 +36,8 @@ abbrev pub part : List ℕ → ℕ → ℕ → List ℕ
 part s from to = take (to - from) (drop from s)
 
 -- what so many octets before the first component, none or eight, tell: "eight octets before its first component", high octet first
-unfoldable pub front_at : ℕ → List ℕ → ℕ → Distinguisher
-front_at front s at = pick (eqb front 0) Absent (Is (value_of (take 8 (drop at s))))
+unfoldable pub front_at : ℕ → List ℕ → ℕ → Option ℕ
+front_at front s at = pick (eqb front 0) None (Some (value_of (take 8 (drop at s))))
 
 -- the components behind so many octets: "The component walk sees only the octets between the length and the stated end", in the plain reading those
 -- up to "the end of the input", and none of the distinguisher: its places are counted from there on. "Used" is "1 or 2 plus the length"
@@ -95,16 +91,8 @@ unfoldable pub standard_into : ℕ → Bool → List ℕ → ℕ → ℕ → ℕ
 standard_into family expected s words values octets = by_reading (standard_of family) expected s words values octets
 
 -- what is answered: the octets used and the operators
-pub record Taken : Type 0 where
-  pub used : ℕ
-  pub operators : ℕ
-
 abbrev pub taken : ℕ → ℕ → Taken
 taken used operators = record { used = used; operators = operators }
-
-abbrev pub told_into : ReadInto → Answer Taken
-told_into (Read used operators) = accepts (taken used operators)
-told_into (Refused f) = refusal f
 
 abbrev pub taken_of : Answer ReadRule → Answer Taken
 taken_of (accepts r) = accepts (taken r.used (length r.operators))

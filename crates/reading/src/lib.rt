@@ -3,31 +3,31 @@
 // parse_flowspec_nlri; the standard readings are added.
 #![tactic(auto)]
 
-ghost use Rattle.std.specs.Prelude.{◌≡◌, true, map, ◌+◌, ◌≤◌, length};
+ghost use Rattle.std.specs.Prelude.{◌≡◌, true, map, ◌+◌, ◌≤◌, length, None};
 ghost use Rattle.std.proofs.lemmas.List.Edits.{sets};
+ghost use Rattle.refusals.specs.Refusals.{answered};
 ghost use Rattle.operators.specs.Ops.{octet_of, number_of};
 ghost use Rattle.choices.specs.declared.Reading.{Reading};
 ghost use Rattle.lists.specs.Runs.{Places};
 ghost use Rattle.stored.specs.Pieces.{piece_words};
 ghost use Rattle.stored.specs.Stored.{head, rule_words};
 ghost use Rattle.walk.specs.Walks.{walk_at};
-ghost use Rattle.reading.specs.Readings.{too_long, stated_at, read_at, read_into, standard_into, front_at, told_into, taken_of, words_of, operators_of};
+ghost use Rattle.reading.specs.Readings.{too_long, stated_at, read_at, read_into, standard_into, front_at, taken_of, words_of, operators_of};
 ghost use Rattle.choices.specs.Choices.{expects, front_of, family_of};
 ghost use Rattle.reading.specs.Parts.{is_body, Standing, found_here, body_at, is_read, read_of, lacking_of};
 
-use choices::{Reading, Standard};
+use choices::Reading;
 use lists::Tally;
 use octets::Cursor;
-use refusals::{Fault, FlowSpecError, OuterError, Place};
-use rules::Distinguisher;
+use prefixes::PrefixAt;
+use refusals::{Fault, FlowSpecError, OuterError};
 use stored::Piece;
-use walk::Walked;
 
 // How many octets were used, length octets included, and how many operators there are.
 #[derive(Clone, Copy)]
-pub enum ReadInto {
-    Read { used: usize, operators: usize },
-    Refused(Fault),
+pub struct Taken {
+    pub used: usize,
+    pub operators: usize,
 }
 
 // Whether an input of so many octets is refused unread.
@@ -36,8 +36,7 @@ fn too_long(reading: Reading, n: usize) -> bool
 {
     match reading {
         Reading::Plain => 4097 < n,
-        Reading::Ipv4 => false,
-        Reading::Ipv6 => false,
+        Reading::Ipv4 | Reading::Ipv6 => false,
     }
 }
 
@@ -66,29 +65,17 @@ fn put_part(
     let tag = s[at];
     let from = at + 1;
     if tag <= 2 {
-        let p = prefixes::prefix_in(reading, s, Cursor { at: from });
-        let prefix = p.prefix;
-        let next = p.next;
-        stored::put_piece(
-            words,
-            word,
-            Piece::Prefix {
-                tag: tag,
-                prefix: prefix,
-            },
-        );
-        return Tally {
-            count: 0,
-            next: next,
-        };
+        let PrefixAt { prefix, next } = prefixes::prefix_in(reading, s, Cursor { at: from });
+        stored::put_piece(words, word, Piece::Prefix { tag, prefix });
+        return Tally { count: 0, next };
     }
     let t = lists::fill(s, from, reading, tag, values, octets, first + start);
     stored::put_piece(
         words,
         word,
         Piece::Operators {
-            tag: tag,
-            start: start,
+            tag,
+            start,
             count: t.count,
         },
     );
@@ -108,7 +95,7 @@ fn put_all(
     requires stop_value { is_body (walk_at reading s.now stop) ≡ true }
     requires in_bounds { 64 ≤ length words.old }
     requires places { Places first (length (body_at reading s.now stop).operators) (length values.old) (length octets.old) }
-    ensures words { words.new ≡ sets words.old 0 (rule_words (body_at reading s.now stop).pieces (head (family_of reading) first Distinguisher.Absent)) }
+    ensures words { words.new ≡ sets words.old 0 (rule_words (body_at reading s.now stop).pieces (head (family_of reading) first None)) }
     ensures values { values.new ≡ sets values.old first (map number_of (body_at reading s.now stop).operators) }
     ensures octets { octets.new ≡ sets octets.old first (map octet_of (body_at reading s.now stop).operators) }
     ensures few { length (body_at reading s.now stop).pieces ≤ 13 }
@@ -116,6 +103,7 @@ fn put_all(
     let mut at: usize = 0;
     let mut start: usize = 0;
     let mut count: usize = 0;
+    // No `for`: the place moves by what is read.
     while at < stop {
         let t = put_part(
             reading,
@@ -137,15 +125,18 @@ fn put_all(
 
 // The distinguisher where one is expected, and the first walk over what follows. The test of the mode stands before all that it changes, so that a
 // reading without one goes as if there were none.
-fn test_body(reading: Reading, mode: u8, input: &[u8], start: usize, size: usize) -> ReadInto
+fn test_body(
+    reading: Reading,
+    mode: u8,
+    input: &[u8],
+    start: usize,
+    size: usize,
+) -> Result<Taken, Fault>
     requires { start ≤ length input.now }
-    ensures { told_into result ≡ taken_of (stated_at reading (expects mode) input.now start size) }
+    ensures { answered result ≡ taken_of (stated_at reading (expects mode) input.now start size) }
 {
     if input.len() - start < size {
-        return ReadInto::Refused(Fault {
-            error: FlowSpecError::InsufficientData,
-            place: Place::Octet(input.len()),
-        });
+        return Err(FlowSpecError::InsufficientData.at(input.len()));
     }
     let used = start + size;
     let mut from = start;
@@ -153,49 +144,35 @@ fn test_body(reading: Reading, mode: u8, input: &[u8], start: usize, size: usize
     if mode == 2 {
         let front = choices::front(reading, true);
         if size < front {
-            return ReadInto::Refused(Fault {
-                error: FlowSpecError::Outer(OuterError::ShortDistinguisher),
-                place: Place::Octet(used),
-            });
+            return Err(FlowSpecError::Outer(OuterError::ShortDistinguisher).at(used));
         }
         from = start + front;
         left = size - front;
     }
     let end = choices::bound(reading, input.len(), used);
     match walk::walk(reading, &input[from..end], left) {
-        Walked::Accepted { operators } => ReadInto::Read {
-            used: used,
-            operators: operators,
-        },
-        Walked::Refused(fault) => ReadInto::Refused(fault.moved(from)),
+        Ok(operators) => Ok(Taken { used, operators }),
+        Err(fault) => Err(fault.moved(from)),
     }
 }
 
 // What a reading with room for all would answer. A mode of 2 expects a distinguisher, any other none; it is a number and no bool, so that the test of it
 // stays where it is made. Nothing is lent to be written. The length field is read in small steps, and not by
 // `Cursor::parse_length`, whose enum would go through memory.
-pub fn test(reading: Reading, mode: u8, input: &[u8]) -> ReadInto
-    ensures { told_into result ≡ taken_of (read_at reading (expects mode) input.now) }
+#[tactic(auto, using(crate::proofs::Ways::over_long, crate::proofs::Ways::by_field))]
+pub fn test(reading: Reading, mode: u8, input: &[u8]) -> Result<Taken, Fault>
+    ensures { answered result ≡ taken_of (read_at reading (expects mode) input.now) }
 {
     let n = input.len();
     if too_long(reading, n) {
-        return ReadInto::Refused(Fault {
-            error: FlowSpecError::InputTooLong(n),
-            place: Place::Nowhere,
-        });
+        return Err(FlowSpecError::InputTooLong(n).into());
     }
     if n == 0 {
-        return ReadInto::Refused(Fault {
-            error: FlowSpecError::InsufficientData,
-            place: Place::Octet(n),
-        });
+        return Err(FlowSpecError::InsufficientData.at(n));
     }
     let start = octets::length_width(input[0]);
     if n < start {
-        return ReadInto::Refused(Fault {
-            error: FlowSpecError::InsufficientData,
-            place: Place::Octet(n),
-        });
+        return Err(FlowSpecError::InsufficientData.at(n));
     }
     test_body(
         reading,
@@ -206,32 +183,30 @@ pub fn test(reading: Reading, mode: u8, input: &[u8]) -> ReadInto
     )
 }
 
-// What lent lists of so many words, values and octets lack for a rule with so many operators: nothing, or the number that NoRoom carries. A rule
-// with no operators lacks no place for one, so that number is never 0.
-pub fn lacking(operators: usize, words: usize, values: usize, octets: usize) -> usize
+// What lent lists of so many words, values and octets lack for a rule with so many operators: nothing, or the number that NoRoom carries.
+#[tactic(auto, using(crate::proofs::Rooms::lacks_words, crate::proofs::Rooms::lacks_either, crate::proofs::Rooms::lacks_none))]
+pub fn lacking(operators: usize, words: usize, values: usize, octets: usize) -> Option<usize>
     ensures { result ≡ lacking_of operators words values octets }
 {
     if words < 64 {
-        return 1;
+        return Some(1);
     }
-    if values < operators {
-        return operators;
+    if values < operators || octets < operators {
+        return Some(operators);
     }
-    if octets < operators {
-        return operators;
-    }
-    0
+    None
 }
 
 // The distinguisher of an input that was tested, from the place after its length.
-fn distinguisher_in(reading: Reading, mode: u8, input: &[u8], at: usize) -> Distinguisher
+#[tactic(auto, using(crate::proofs::Stated::front_none, crate::proofs::Stated::front_is))]
+fn distinguisher_in(reading: Reading, mode: u8, input: &[u8], at: usize) -> Option<u64>
     requires { at + front_of reading (expects mode) ≤ length input.now }
     ensures { result ≡ front_at (front_of reading (expects mode)) input.now at }
 {
     if choices::front(reading, mode == 2) == 0 {
-        return Distinguisher::Absent;
+        return None;
     }
-    Distinguisher::Is(octets::read_value(input, at, 3))
+    Some(octets::read_value(input, at, 3))
 }
 
 // The second pass over an input that was tested, and used so many octets: its rule to the first 64 words, its operators to the lists from `first`
@@ -277,30 +252,18 @@ pub fn read_into(
     words: &mut [u64],
     values: &mut [u64],
     octets: &mut [u8],
-) -> ReadInto
-    ensures answer { told_into result ≡ taken_of (read_into reading (expects mode) input.now (length words.old) (length values.old) (length octets.old)) }
+) -> Result<Taken, Fault>
+    ensures answer { answered result ≡ taken_of (read_into reading (expects mode) input.now (length words.old) (length values.old) (length octets.old)) }
     ensures words { words.new ≡ sets words.old 0 (words_of (read_into reading (expects mode) input.now (length words.old) (length values.old) (length octets.old))) }
     ensures values { values.new ≡ sets values.old 0 (map number_of (operators_of (read_into reading (expects mode) input.now (length words.old) (length values.old) (length octets.old)))) }
     ensures octets { octets.new ≡ sets octets.old 0 (map octet_of (operators_of (read_into reading (expects mode) input.now (length words.old) (length values.old) (length octets.old)))) }
 {
-    let tested = test(reading, mode, input);
-    match tested {
-        ReadInto::Refused(fault) => ReadInto::Refused(fault),
-        ReadInto::Read { used, operators } => {
-            let lack = lacking(operators, words.len(), values.len(), octets.len());
-            if lack != 0 {
-                return ReadInto::Refused(Fault {
-                    error: FlowSpecError::NoRoom(lack),
-                    place: Place::Nowhere,
-                });
-            }
-            store(reading, mode, input, used, words, values, octets, 0);
-            ReadInto::Read {
-                used: used,
-                operators: operators,
-            }
-        }
+    let taken = test(reading, mode, input)?;
+    if let Some(lack) = lacking(taken.operators, words.len(), values.len(), octets.len()) {
+        return Err(FlowSpecError::NoRoom(lack).into());
     }
+    store(reading, mode, input, taken.used, words, values, octets, 0);
+    Ok(taken)
 }
 
 // The standard reading, family 4 or 6 given, and by the mode whether a distinguisher is expected.
@@ -311,14 +274,18 @@ pub fn read(
     words: &mut [u64],
     values: &mut [u64],
     octets: &mut [u8],
-) -> ReadInto
-    ensures answer { told_into result ≡ taken_of (standard_into family (expects mode) input.now (length words.old) (length values.old) (length octets.old)) }
+) -> Result<Taken, Fault>
+    ensures answer { answered result ≡ taken_of (standard_into family (expects mode) input.now (length words.old) (length values.old) (length octets.old)) }
     ensures words { words.new ≡ sets words.old 0 (words_of (standard_into family (expects mode) input.now (length words.old) (length values.old) (length octets.old))) }
     ensures values { values.new ≡ sets values.old 0 (map number_of (operators_of (standard_into family (expects mode) input.now (length words.old) (length values.old) (length octets.old)))) }
     ensures octets { octets.new ≡ sets octets.old 0 (map octet_of (operators_of (standard_into family (expects mode) input.now (length words.old) (length values.old) (length octets.old)))) }
 {
-    match choices::reading_of(family) {
-        Standard::Is(reading) => read_into(reading, mode, input, words, values, octets),
-        Standard::Refused(fault) => ReadInto::Refused(fault),
-    }
+    read_into(
+        Reading::try_from(family)?,
+        mode,
+        input,
+        words,
+        values,
+        octets,
+    )
 }

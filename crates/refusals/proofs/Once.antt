@@ -1,20 +1,21 @@
--- A refusal's number, what it carries and its place determine it, so an answer told in these terms leaves no second one: whoever tells an answer can
--- be shown to lose nothing by reading it back.
+-- A refusal's number, what it carries and its place determine it, so no second answer meets a contract that says what is answered.
 use Prim.Native.Nat.{ℕ}
 use mathlib.Core.Path.{◌≡◌, refl, sym, ap, ap₂, ◌∙◌}
 use mathlib.Core.List.{List}
 use lib.ListN.{get_or}
 use lib.Dec.{eqb}
-use Rattle.ground.specs.Answers.{Place, nowhere, at_octet, Refused}
+use Rattle.ground.specs.Answers.{Place, nowhere, at_octet, Refused, Answer, accepts, declines}
 use Rattle.ground.specs.Picks.{pick}
 use Rattle.refusals.specs.declared.FlowSpecError.{FlowSpecError}
 use Rattle.refusals.specs.declared.FlowSpecError.TheVariants.{InsufficientData, InvalidComponentOrder, InvalidComponentType, InvalidPrefix, InvalidOperator, InvalidValueLength, ValueTooLarge, InputTooLong, NoRoom, BadRecord, BadFamily, TooManyRules, BadPacket, MixedFamily, Outer}
 use Rattle.refusals.specs.declared.OuterError.{OuterError}
 use Rattle.refusals.specs.declared.OuterError.TheVariants.{BadAttribute, ShortPacket, BadHeader, TooManyHeaders, ShortDistinguisher, MixedDistinguisher, TableFull, NotStored, BadLine, NoOldForm, UnknownAction, BadRate, PastEnd}
-use Rattle.refusals.specs.declared.Place.{Place as Place·code}
-use Rattle.refusals.specs.declared.Place.TheVariants.{Nowhere, Octet}
+use Rattle.std.specs.declared.option.Option.{Option}
+use Rattle.std.specs.declared.option.Option.TheVariants.{Some, None}
+use Rattle.std.specs.declared.result.Result.{Result}
+use Rattle.std.specs.declared.result.Result.TheVariants.{Ok, Err}
 use Rattle.refusals.specs.declared.Fault.{Fault}
-use Rattle.refusals.specs.Refusals.{outer_number, outer_carried, number_of, carried_of, place_of, told}
+use Rattle.refusals.specs.Refusals.{outer_number, outer_carried, number_of, carried_of, place_of, told, answered}
 
 -- the refusal of a number, with what it carries
 abbrev outer_of : ℕ → List ℕ → OuterError
@@ -97,19 +98,30 @@ error_back BadPacket = refl
 error_back (MixedFamily a) = refl
 error_back (Outer e) = outer_error e ∙ ap Outer (outer_back e)
 
-abbrev code_of : Place → Place·code
-code_of nowhere = Nowhere
-code_of (at_octet at) = Octet at
+abbrev code_of : Place → Option ℕ
+code_of nowhere = None
+code_of (at_octet at) = Some at
 
-place_back : (p : Place·code) → code_of (place_of p) ≡ p
-place_back Nowhere = refl
-place_back (Octet at) = refl
+place_back : (p : Option ℕ) → code_of (place_of p) ≡ p
+place_back None = refl
+place_back (Some at) = refl
 
-abbrev pub fault_of : Refused → Fault
-fault_of f = record { error = error_of f.number f.carried; place = code_of f.place }
+abbrev pub fault_from : Refused → Fault
+fault_from f = record { error = error_of f.number f.carried; place = code_of f.place }
 
-pub fault_back : (f : Fault) → fault_of (told f) ≡ f
-fault_back f = ap₂ (λ (e : FlowSpecError) (p : Place·code). record { error = e; place = p }) (error_back f.error) (place_back f.place)
+pub fault_back : (f : Fault) → fault_from (told f) ≡ f
+fault_back f = ap₂ (λ (e : FlowSpecError) (p : Option ℕ). record { error = e; place = p }) (error_back f.error) (place_back f.place)
 
 pub fault_once : (f g : Fault) → told f ≡ told g → f ≡ g
-fault_once f g h = sym (fault_back f) ∙ ap fault_of h ∙ fault_back g
+fault_once f g h = sym (fault_back f) ∙ ap fault_from h ∙ fault_back g
+
+abbrev result_of : {T : Type 0} → Answer T → Result T Fault
+result_of (accepts x) = Ok x
+result_of (declines f) = Err (fault_from f)
+
+result_back : {T : Type 0} (r : Result T Fault) → result_of (answered r) ≡ r
+result_back (Ok x) = refl
+result_back (Err f) = ap Err (fault_back f)
+
+pub answered_once : {T : Type 0} (a b : Result T Fault) → answered a ≡ answered b → a ≡ b
+answered_once a b h = sym (result_back a) ∙ ap result_of h ∙ result_back b

@@ -1,12 +1,14 @@
 -- Each refusal's number and the numbers that it carries: document 01, "What comes back"; those from 15 on are document 02's.
 use Rattle.std.specs.Prelude.{ℕ, ◌+◌, ◌^◌, ◌<◌, List, [], ◌∷◌, length, get_or}
-use Rattle.ground.specs.Answers.{Place, nowhere, at_octet, Refused, refused, Answer, declines}
+use Rattle.std.specs.declared.option.Option.{Option}
+use Rattle.std.specs.declared.option.Option.TheVariants.{Some, None}
+use Rattle.std.specs.declared.result.Result.{Result}
+use Rattle.std.specs.declared.result.Result.TheVariants.{Ok, Err}
+use Rattle.ground.specs.Answers.{Place, nowhere, at_octet, Refused, refused, Answer, accepts, declines}
 use Rattle.refusals.specs.declared.OuterError.{OuterError}
 use Rattle.refusals.specs.declared.OuterError.TheVariants.{BadAttribute, ShortPacket, BadHeader, TooManyHeaders, ShortDistinguisher, MixedDistinguisher, TableFull, NotStored, BadLine, NoOldForm, UnknownAction, BadRate, PastEnd}
 use Rattle.refusals.specs.declared.FlowSpecError.{FlowSpecError}
 use Rattle.refusals.specs.declared.FlowSpecError.TheVariants.{InsufficientData, InvalidComponentOrder, InvalidComponentType, InvalidPrefix, InvalidOperator, InvalidValueLength, ValueTooLarge, InputTooLong, NoRoom, BadRecord, BadFamily, TooManyRules, BadPacket, MixedFamily, Outer}
-use Rattle.refusals.specs.declared.Place.{Place as Place·code}
-use Rattle.refusals.specs.declared.Place.TheVariants.{Nowhere, Octet}
 use Rattle.refusals.specs.declared.Fault.{Fault}
 use Rattle.refusals.specs.declared.Numbers.{Numbers}
 
@@ -78,9 +80,16 @@ carried_of (Outer e) = outer_carried e
 abbrev pub numbers_of : ℕ → List ℕ → Numbers
 numbers_of number carried = record { number = number; count = length carried; first = get_or carried 0 0; second = get_or carried 1 0 }
 
-abbrev pub place_of : Place·code → Place
-place_of Nowhere = nowhere
-place_of (Octet at) = at_octet at
+abbrev pub place_of : Option ℕ → Place
+place_of None = nowhere
+place_of (Some at) = at_octet at
+
+-- a refusal of an octet, and one of no octet
+abbrev pub fault_at : ℕ → FlowSpecError → Fault
+fault_at octet error = record { place = Some octet; error = error }
+
+abbrev pub fault_of : FlowSpecError → Fault
+fault_of error = record { place = None; error = error }
 
 -- a refusal as the documents tell it, and as an answer
 abbrev pub told : Fault → Refused
@@ -89,7 +98,15 @@ told f = refused (number_of f.error) (carried_of f.error) (place_of f.place)
 abbrev pub refusal {ℓ} : {A : Type ℓ} → Fault → Answer A
 refusal f = declines (told f)
 
+-- what a call answers, as the documents tell it: what it holds, as `said` has it, or its refusal
+abbrev pub answered_by {ℓ} : {T : Type 0} {A : Type ℓ} → (T → A) → Result T Fault → Answer A
+answered_by said (Ok x) = accepts (said x)
+answered_by said (Err f) = refusal f
+
+abbrev pub answered : {T : Type 0} → Result T Fault → Answer T
+answered = answered_by (λ x. x)
+
 -- a place that can be moved: what it becomes is a number of 64 bits
-abbrev pub Movable : ℕ → Place·code → Type 0
-Movable start Nowhere = Unit
-Movable start (Octet at) = start + at < 2 ^ 64
+abbrev pub Movable : ℕ → Option ℕ → Type 0
+Movable start None = Unit
+Movable start (Some at) = start + at < 2 ^ 64

@@ -1,9 +1,10 @@
 // What a call refuses with. The names are the Rust's where it has one; the others, from the seventh on, are the documents'.
 #![tactic(auto)]
 
-ghost use Rattle.std.specs.Prelude.{◌≡◌};
+ghost use Rattle.std.specs.Prelude.{◌≡◌, [], ◌∷◌};
+ghost use Rattle.refusals.specs.declared.FlowSpecError.TheVariants.{Outer};
 ghost use Rattle.ground.specs.Answers.{moved_by};
-ghost use Rattle.refusals.specs.Refusals.{outer_number, outer_carried, number_of, carried_of, numbers_of, told, Movable};
+ghost use Rattle.refusals.specs.Refusals.{outer_number, outer_carried, number_of, carried_of, numbers_of, fault_at, fault_of, told, Movable};
 
 // Refusals of what is built around rules: attributes, headers, distinguishers, tables, texts, actions, logs.
 #[derive(Clone, Copy)]
@@ -45,18 +46,41 @@ pub enum FlowSpecError {
     Outer(OuterError),
 }
 
-// Where it broke: at an octet, whose place is counted from the start of the octets that were lent, or nowhere in them.
-#[derive(Clone, Copy)]
-pub enum Place {
-    Nowhere,
-    Octet(usize),
-}
-
-// A refusal on its way up. The place stands first: behind the error, a check compiles to half as much code again.
+// A refusal on its way up, and where it broke: at an octet, whose place is counted from the start of the octets that were lent, or nowhere in them.
+// The place stands first: behind the error, a check compiles to half as much code again.
 #[derive(Clone, Copy)]
 pub struct Fault {
-    pub place: Place,
+    pub place: Option<usize>,
     pub error: FlowSpecError,
+}
+
+impl FlowSpecError {
+    // The refusal of an octet.
+    pub fn at(self, octet: usize) -> Fault
+        ensures { result ≡ fault_at octet self }
+    {
+        Fault {
+            place: Some(octet),
+            error: self,
+        }
+    }
+}
+
+// Nowhere in the octets, if there are any.
+impl From<FlowSpecError> for Fault {
+    ghost from_gives = { λ error fault. fault ≡ fault_of error };
+
+    fn from(error: FlowSpecError) -> Fault {
+        Fault { place: None, error }
+    }
+}
+
+impl From<OuterError> for FlowSpecError {
+    ghost from_gives = { λ outer error. error ≡ Outer outer };
+
+    fn from(outer: OuterError) -> FlowSpecError {
+        FlowSpecError::Outer(outer)
+    }
 }
 
 impl Fault {
@@ -65,17 +89,9 @@ impl Fault {
         requires { Movable start self.place }
         ensures { told result ≡ moved_by start (told self) }
     {
-        let error = self.error;
-        let place = self.place;
-        match place {
-            Place::Nowhere => Fault {
-                error: error,
-                place: Place::Nowhere,
-            },
-            Place::Octet(at) => Fault {
-                error: error,
-                place: Place::Octet(start + at),
-            },
+        match self.place {
+            None => self,
+            Some(at) => self.error.at(start + at),
         }
     }
 }
@@ -89,183 +105,82 @@ pub struct Numbers {
     pub second: u64,
 }
 
-fn outer_numbered(error: OuterError) -> Numbers
-    ensures { result ≡ numbers_of (outer_number error) (outer_carried error) }
+// The numbers of a refusal that carries nothing, and of one that carries one number.
+fn alone(number: u8) -> Numbers
+    ensures { result ≡ numbers_of number [] }
 {
-    match error {
-        OuterError::BadAttribute => Numbers {
-            number: 15,
-            count: 0,
-            first: 0,
-            second: 0,
-        },
-        OuterError::ShortPacket => Numbers {
-            number: 16,
-            count: 0,
-            first: 0,
-            second: 0,
-        },
-        OuterError::BadHeader => Numbers {
-            number: 17,
-            count: 0,
-            first: 0,
-            second: 0,
-        },
-        OuterError::TooManyHeaders => Numbers {
-            number: 18,
-            count: 0,
-            first: 0,
-            second: 0,
-        },
-        OuterError::ShortDistinguisher => Numbers {
-            number: 19,
-            count: 0,
-            first: 0,
-            second: 0,
-        },
-        OuterError::MixedDistinguisher(place) => Numbers {
-            number: 20,
-            count: 1,
-            first: place as u64,
-            second: 0,
-        },
-        OuterError::TableFull => Numbers {
-            number: 21,
-            count: 0,
-            first: 0,
-            second: 0,
-        },
-        OuterError::NotStored => Numbers {
-            number: 22,
-            count: 0,
-            first: 0,
-            second: 0,
-        },
-        OuterError::BadLine(line) => Numbers {
-            number: 23,
-            count: 1,
-            first: line as u64,
-            second: 0,
-        },
-        OuterError::NoOldForm => Numbers {
-            number: 24,
-            count: 0,
-            first: 0,
-            second: 0,
-        },
-        OuterError::UnknownAction => Numbers {
-            number: 25,
-            count: 0,
-            first: 0,
-            second: 0,
-        },
-        OuterError::BadRate => Numbers {
-            number: 26,
-            count: 0,
-            first: 0,
-            second: 0,
-        },
-        OuterError::PastEnd => Numbers {
-            number: 27,
-            count: 0,
-            first: 0,
-            second: 0,
-        },
+    Numbers {
+        number,
+        count: 0,
+        first: 0,
+        second: 0,
+    }
+}
+
+fn carrying(number: u8, first: u64) -> Numbers
+    ensures { result ≡ numbers_of number (first ∷ []) }
+{
+    Numbers {
+        number,
+        count: 1,
+        first,
+        second: 0,
+    }
+}
+
+impl From<OuterError> for Numbers {
+    ghost from_gives = { λ error numbers. numbers ≡ numbers_of (outer_number error) (outer_carried error) };
+
+    fn from(error: OuterError) -> Numbers {
+        match error {
+            OuterError::BadAttribute => alone(15),
+            OuterError::ShortPacket => alone(16),
+            OuterError::BadHeader => alone(17),
+            OuterError::TooManyHeaders => alone(18),
+            OuterError::ShortDistinguisher => alone(19),
+            OuterError::MixedDistinguisher(place) => carrying(20, place as u64),
+            OuterError::TableFull => alone(21),
+            OuterError::NotStored => alone(22),
+            OuterError::BadLine(line) => carrying(23, line as u64),
+            OuterError::NoOldForm => alone(24),
+            OuterError::UnknownAction => alone(25),
+            OuterError::BadRate => alone(26),
+            OuterError::PastEnd => alone(27),
+        }
     }
 }
 
 // The refusal's number, and what it carries.
-pub fn numbered(error: FlowSpecError) -> Numbers
-    ensures { result ≡ numbers_of (number_of error) (carried_of error) }
-{
-    match error {
-        FlowSpecError::InsufficientData => Numbers {
-            number: 1,
-            count: 0,
-            first: 0,
-            second: 0,
-        },
-        FlowSpecError::InvalidComponentOrder {
-            expected_greater_than,
-            found,
-        } => Numbers {
-            number: 2,
-            count: 2,
-            first: expected_greater_than as u64,
-            second: found as u64,
-        },
-        FlowSpecError::InvalidComponentType(component_type) => Numbers {
-            number: 3,
-            count: 1,
-            first: component_type as u64,
-            second: 0,
-        },
-        FlowSpecError::InvalidPrefix => Numbers {
-            number: 4,
-            count: 0,
-            first: 0,
-            second: 0,
-        },
-        FlowSpecError::InvalidOperator(octet) => Numbers {
-            number: 5,
-            count: 1,
-            first: octet as u64,
-            second: 0,
-        },
-        FlowSpecError::InvalidValueLength(code) => Numbers {
-            number: 6,
-            count: 1,
-            first: code as u64,
-            second: 0,
-        },
-        FlowSpecError::ValueTooLarge(body) => Numbers {
-            number: 7,
-            count: 1,
-            first: body as u64,
-            second: 0,
-        },
-        FlowSpecError::InputTooLong(size) => Numbers {
-            number: 8,
-            count: 1,
-            first: size as u64,
-            second: 0,
-        },
-        FlowSpecError::NoRoom(needed) => Numbers {
-            number: 9,
-            count: 1,
-            first: needed as u64,
-            second: 0,
-        },
-        FlowSpecError::BadRecord => Numbers {
-            number: 10,
-            count: 0,
-            first: 0,
-            second: 0,
-        },
-        FlowSpecError::BadFamily(family) => Numbers {
-            number: 11,
-            count: 1,
-            first: family as u64,
-            second: 0,
-        },
-        FlowSpecError::TooManyRules(count) => Numbers {
-            number: 12,
-            count: 1,
-            first: count as u64,
-            second: 0,
-        },
-        FlowSpecError::BadPacket => Numbers {
-            number: 13,
-            count: 0,
-            first: 0,
-            second: 0,
-        },
-        FlowSpecError::MixedFamily(place) => Numbers {
-            number: 14,
-            count: 1,
-            first: place as u64,
-            second: 0,
-        },
-        FlowSpecError::Outer(outer) => outer_numbered(outer),
+impl From<FlowSpecError> for Numbers {
+    ghost from_gives = { λ error numbers. numbers ≡ numbers_of (number_of error) (carried_of error) };
+
+    fn from(error: FlowSpecError) -> Numbers {
+        match error {
+            FlowSpecError::InsufficientData => alone(1),
+            FlowSpecError::InvalidComponentOrder {
+                expected_greater_than,
+                found,
+            } => Numbers {
+                number: 2,
+                count: 2,
+                first: expected_greater_than as u64,
+                second: found as u64,
+            },
+            FlowSpecError::InvalidComponentType(component_type) => {
+                carrying(3, component_type as u64)
+            }
+            FlowSpecError::InvalidPrefix => alone(4),
+            FlowSpecError::InvalidOperator(octet) => carrying(5, octet as u64),
+            FlowSpecError::InvalidValueLength(code) => carrying(6, code as u64),
+            FlowSpecError::ValueTooLarge(body) => carrying(7, body as u64),
+            FlowSpecError::InputTooLong(size) => carrying(8, size as u64),
+            FlowSpecError::NoRoom(needed) => carrying(9, needed as u64),
+            FlowSpecError::BadRecord => alone(10),
+            FlowSpecError::BadFamily(family) => carrying(11, family as u64),
+            FlowSpecError::TooManyRules(count) => carrying(12, count as u64),
+            FlowSpecError::BadPacket => alone(13),
+            FlowSpecError::MixedFamily(place) => carrying(14, place as u64),
+            FlowSpecError::Outer(outer) => Numbers::from(outer),
+        }
     }
 }

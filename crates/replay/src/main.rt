@@ -1,8 +1,11 @@
 // Replays the stored answers of the Rust: each line of standard input is a request and the answer, `numeric 89 6 = 5 89`. The
 // request is put to the proved code, and its answer must be the same text. Says how many lines were compared, and prints each that
 // differs. The list is made by tools/store-answers of the answers of the original Rust; `oracle --help` (rust/oracle) explains its lines.
-// A read or a write that fails ends it with an error.
+// A read or a write that fails ends it with an error. Octets after the last newline are no line.
 #![tactic(auto)]
+
+ghost use Rattle.std.specs.Prelude.{◌≤◌};
+ghost use Rattle.replay.specs.declared.TheConstants.{ROOM};
 
 mod calls;
 mod ruletext;
@@ -11,114 +14,83 @@ mod text;
 use std::io;
 use std::io::Read;
 
-// The octets of the line so far, and the lines compared.
-#[derive(Clone, Copy)]
-pub struct State {
-    pub used: usize,
-    pub compared: u64,
-    pub differ: u64,
+// The most octets of a line that count: what a longer line has after them is dropped.
+const ROOM: usize = 20000;
+
+// The octets of the line so far.
+#[derive(Drop)]
+struct Line {
+    octets: [u8; ROOM],
+    used: usize,
+    ghost inside: { used ≤ ROOM },
 }
 
-fn line_ended(rt: &impl Print, line: &[u8], state: State) -> io::Result<State> {
-    let n = state.used;
-    let compared = state.compared.wrapping_add(1);
-    if n <= line.len() {
-        let request = &line[..n];
-        if calls::agrees(request) {
-            return Ok(State {
-                used: 0,
-                compared: compared,
-                differ: state.differ,
-            });
+impl Line {
+    fn push(&mut self, octet: u8) {
+        if self.used < ROOM {
+            self.octets[self.used] = octet;
+            self.used += 1;
         }
+    }
+
+    fn octets(&self) -> &[u8] {
+        &self.octets[..self.used]
+    }
+
+    fn clear(&mut self) {
+        self.used = 0;
+    }
+}
+
+// How many lines were compared, and how many of them differ.
+#[derive(Drop)]
+struct Replay {
+    compared: u64,
+    differ: u64,
+}
+
+impl Replay {
+    fn compare(&mut self, rt: &impl Print, line: &[u8]) -> io::Result<()> {
+        self.compared = self.compared.wrapping_add(1);
+        if calls::agrees(line) {
+            return Ok(());
+        }
+        self.differ = self.differ.wrapping_add(1);
         rt.write_all(b"differs: ")?;
-        rt.write_all(request)?;
-        rt.write_all(b"\n")?;
+        rt.write_all(line)?;
+        rt.write_all(b"\n")
     }
-    Ok(State {
-        used: 0,
-        compared: compared,
-        differ: state.differ.wrapping_add(1),
-    })
 }
 
-// One octet more. A line too long for the buffer is cut, and then differs.
-fn octet_came(rt: &impl Print, line: &mut [u8], state: State, octet: u8) -> io::Result<State> {
-    if octet == b'\n' {
-        return line_ended(rt, line, state);
-    }
-    let at = state.used;
-    if line.len() <= at {
-        return Ok(state);
-    }
-    line[at] = octet;
-    Ok(State {
-        used: at + 1,
-        compared: state.compared,
-        differ: state.differ,
-    })
-}
-
-fn all_came(rt: &impl Print, line: &mut [u8], state: State, part: &[u8]) -> io::Result<State> {
-    let mut now = state;
-    let mut i = 0;
-    while i < part.len() {
-        let octet = part[i];
-        now = octet_came(rt, line, now, octet)?;
-        i += 1;
-    }
-    Ok(now)
-}
-
-// Reads once. Whether there may be more is told by the octets read.
-#[derive(Clone, Copy)]
-pub struct Turn {
-    pub state: State,
-    pub more: bool,
-}
-
-fn read_once(
-    rt: &impl Print,
-    reader: &mut impl Read,
-    line: &mut [u8],
-    state: State,
-) -> io::Result<Turn> {
-    let mut buffer = [0u8; 65536];
-    let n = reader.read(&mut buffer)?;
-    if n == 0 {
-        return Ok(Turn {
-            state: state,
-            more: false,
-        });
-    }
-    let next = all_came(rt, line, state, &buffer[..n])?;
-    Ok(Turn {
-        state: next,
-        more: true,
-    })
-}
-
-// A proved loop has to end, and nothing says that the input does: the turns are counted down from a number that no run uses up.
-fn run(rt: &impl Print, reader: &mut impl Read, line: &mut [u8]) -> io::Result<State> {
-    let mut state = State {
-        used: 0,
+// A proved loop has to end, and nothing says that the input does: no run uses up so many turns.
+fn run(rt: &impl Print, reader: &mut impl Read) -> io::Result<Replay> {
+    let mut replay = Replay {
         compared: 0,
         differ: 0,
     };
-    let mut turns = u64::MAX;
-    while 0 < turns {
-        let t = read_once(rt, reader, line, state)?;
-        state = t.state;
-        if !t.more {
-            return Ok(state);
+    let mut line = Line {
+        octets: [0; ROOM],
+        used: 0,
+    };
+    let mut buffer = [0u8; 65536];
+    for _ in 0..u64::MAX {
+        let n = reader.read(&mut buffer)?;
+        if n == 0 {
+            break;
         }
-        turns -= 1;
+        for &octet in &buffer[..n] {
+            if octet == b'\n' {
+                replay.compare(rt, line.octets())?;
+                line.clear();
+            } else {
+                line.push(octet);
+            }
+        }
     }
-    Ok(state)
+    Ok(replay)
 }
 
 fn main(rt: HostRuntime) -> io::Result<()> {
-    let mut line = [0u8; 20000];
-    let state = run(&rt, &mut rt.stdin(), &mut line)?;
-    println!(rt; "{} compared, {} differ", state.compared, state.differ)
+    let Replay { compared, differ } = run(&rt, &mut rt.stdin())?;
+    println!(rt; "{compared} compared, {differ} differ")
 }

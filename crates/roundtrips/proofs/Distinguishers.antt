@@ -8,6 +8,7 @@ use native.Mathlib.Nat.{mod-eq_of_lt}
 use lib.Dec.{eqb}
 use lib.ListN.{length, get_or, take, drop}
 use lib.Seq.{take-append_seam, drop-append_seam}
+use Rattle.std.specs.Prelude.{None, Some, Option}
 use Rattle.ground.specs.Answers.{accepts}
 use Rattle.octets.specs.Spell.{value_of, spelled}
 use Rattle.octets.proofs.Spells.{length_spelled, value_spelled}
@@ -15,8 +16,6 @@ use Rattle.choices.specs.declared.Reading.{Reading}
 use Rattle.choices.specs.declared.Reading.TheVariants.{Plain, Ipv4, Ipv6}
 use Rattle.choices.specs.Choices.{front_of}
 use Rattle.prefixes.proofs.Accepted.{Octets, value_lt}
-use Rattle.rules.specs.declared.Distinguisher.{Distinguisher}
-use Rattle.rules.specs.declared.Distinguisher.TheVariants.{Absent, Is}
 use Rattle.stored.specs.Distinguishers.{distinguisher_at}
 use Rattle.stored.specs.Stored.{StoredRule, rule_at}
 use Rattle.stored.proofs.Inverse.{accepted}
@@ -27,33 +26,33 @@ use Rattle.roundtrips.specs.Trips.{Words, expected}
 use Rattle.roundtrips.proofs.StoredPieces.{either}
 
 -- its 64 bits
-abbrev pub Word : Distinguisher → Type 0
-Word Absent = Unit {0}
-Word (Is n) = n < 2 ^ 64
+abbrev pub Word : Option ℕ → Type 0
+Word None = Unit {0}
+Word (Some n) = n < 2 ^ 64
 
 -- what is written of one takes the octets that a reading told of it looks for
-pub front_long : (w : Reading) → Standard w → (d : Distinguisher) → length (distinguisher_octets w d) ≡ front_of w (expected d)
+pub front_long : (w : Reading) → Standard w → (d : Option ℕ) → length (distinguisher_octets w d) ≡ front_of w (expected d)
 front_long Plain st d = absurd st
-front_long Ipv4 st Absent = refl
-front_long Ipv4 st (Is n) = length_spelled 8 n
-front_long Ipv6 st Absent = refl
-front_long Ipv6 st (Is n) = length_spelled 8 n
+front_long Ipv4 st None = refl
+front_long Ipv4 st (Some n) = length_spelled 8 n
+front_long Ipv6 st None = refl
+front_long Ipv6 st (Some n) = length_spelled 8 n
 
 -- and is read back
-eight_back : (n : ℕ) → n < 2 ^ 64 → (hs rest : List ℕ) → Is (value_of (take 8 (drop (length hs) (hs ++ (spelled 8 n ++ rest))))) ≡ Is n
+eight_back : (n : ℕ) → n < 2 ^ 64 → (hs rest : List ℕ) → Some (value_of (take 8 (drop (length hs) (hs ++ (spelled 8 n ++ rest))))) ≡ Some n
 eight_back n h hs rest =
     let e : take 8 (spelled 8 n ++ rest) ≡ spelled 8 n =
     ap (λ (k : ℕ). take k (spelled 8 n ++ rest)) (sym (length_spelled 8 n)) ∙ take-append_seam (spelled 8 n) rest in
-    ap (λ (l : List ℕ). Is (value_of (take 8 l))) (drop-append_seam hs (spelled 8 n ++ rest)) ∙ ap (λ (l : List ℕ). Is (value_of l)) e
-    ∙ ap Is (value_spelled 8 n ∙ mod-eq_of_lt h)
+    ap (λ (l : List ℕ). Some (value_of (take 8 l))) (drop-append_seam hs (spelled 8 n ++ rest)) ∙ ap (λ (l : List ℕ). Some (value_of l)) e
+    ∙ ap Some (value_spelled 8 n ∙ mod-eq_of_lt h)
 
-pub front_back : (w : Reading) → Standard w → (d : Distinguisher) → Word d → (hs rest : List ℕ) → front_at (front_of w (expected d)) (hs ++ (distinguisher_octets w d ++ rest)) (length hs) ≡ d
+pub front_back : (w : Reading) → Standard w → (d : Option ℕ) → Word d → (hs rest : List ℕ) → front_at (front_of w (expected d)) (hs ++ (distinguisher_octets w d ++ rest)) (length hs) ≡ d
 unfolding front_at
 front_back Plain st d h hs rest = absurd st
-front_back Ipv4 st Absent h hs rest = refl
-front_back Ipv4 st (Is n) h hs rest = eight_back n h hs rest
-front_back Ipv6 st Absent h hs rest = refl
-front_back Ipv6 st (Is n) h hs rest = eight_back n h hs rest
+front_back Ipv4 st None h hs rest = refl
+front_back Ipv4 st (Some n) h hs rest = eight_back n h hs rest
+front_back Ipv6 st None h hs rest = refl
+front_back Ipv6 st (Some n) h hs rest = eight_back n h hs rest
 
 -- what a reading gave of one: there is one just if it was expected, and it is a word
 module _ (s : List ℕ) (at : ℕ) where

@@ -7,13 +7,13 @@ use mathlib.Core.List.{List, [], ◌++◌, map, append-nil}
 use native.Mathlib.Omega.{arith}
 use lib.ListN.{length, drop, length-append, length-map}
 use lib.Seq.{sets, sets-eq}
+use Rattle.std.specs.Prelude.{Option}
 use Rattle.ground.specs.Answers.{accepts}
 use Rattle.octets.specs.Lengths.{length_octets}
 use Rattle.choices.specs.declared.Reading.{Reading}
 use Rattle.choices.specs.Choices.{front_of, family_of}
 use Rattle.operators.specs.Ops.{Op, octet_of, number_of, ops_in}
 use Rattle.prefixes.proofs.Accepted.{Octets}
-use Rattle.rules.specs.declared.Distinguisher.{Distinguisher}
 use Rattle.stored.specs.declared.Piece.{Piece}
 use Rattle.stored.specs.Stored.{Head, head, rule_words, stored_rule, rule_at}
 use Rattle.stored.proofs.Words.{at_good}
@@ -53,7 +53,7 @@ module _ (w : Reading) (st : Standard w) (rd : Bool) (words values octets : List
       (read_at w rd) rule
 
   -- what is behind it: a distinguisher just if one was expected, components, and a length that is no shorter than the one that is written
-  pub record Behind (b : Body) (d : Distinguisher) (n used : ℕ) : Type 0 where
+  pub record Behind (b : Body) (d : Option ℕ) (n used : ℕ) : Type 0 where
     pub rule : Rule 0 b.pieces
     pub taking : Taking w (front_lent b.operators values octets) 0 0 0 b n
     pub told : expected d ≡ rd
@@ -61,7 +61,7 @@ module _ (w : Reading) (st : Standard w) (rd : Bool) (words values octets : List
     pub most : front_of w rd + n ≤ 4095
     pub least : length (length_octets (front_of w rd + n)) + (front_of w rd + n) ≤ used
 
-  by_taking : (b : Body) (d : Distinguisher) (n used : ℕ) → Behind b d n used → Fronted (read_rule b (family_of w) d used)
+  by_taking : (b : Body) (d : Option ℕ) (n used : ℕ) → Behind b d n used → Fronted (read_rule b (family_of w) d used)
   by_taking b d n used x =
       let h = head (family_of w) 0 d in
       let t = x.taking in
@@ -94,7 +94,7 @@ module _ (w : Reading) (st : Standard w) (rd : Bool) (words values octets : List
   Fronts rule =
       Canonical (stored_rule rule.pieces (head rule.family 0 rule.distinguisher)) (map number_of rule.operators ++ values) (map octet_of rule.operators ++ octets)
 
-  canonical_taking : (b : Body) (d : Distinguisher) (n used : ℕ) → Taking w (front_lent b.operators values octets) 0 0 0 b n → Fronts (read_rule b (family_of w) d used)
+  canonical_taking : (b : Body) (d : Option ℕ) (n used : ℕ) → Taking w (front_lent b.operators values octets) 0 0 0 b n → Fronts (read_rule b (family_of w) d used)
   canonical_taking b d n used t =
       let os = b.operators in
       let f : ops_of (front_lent os values octets) 0 (length os) ≡ os =
@@ -105,7 +105,7 @@ module _ (w : Reading) (st : Standard w) (rd : Bool) (words values octets : List
       }
 
   module _ (s : List ℕ) (rule : ReadRule) (o : Octets s) (e : read_at w rd s ≡ accepts rule) where
-    by_reading_lem : (P : ReadRule → Type 0) → ((b : Body) (d : Distinguisher) (n used : ℕ) → Behind b d n used → P (read_rule b (family_of w) d used)) → P rule
+    by_reading_lem : (P : ReadRule → Type 0) → ((b : Body) (d : Option ℕ) (n used : ℕ) → Behind b d n used → P (read_rule b (family_of w) d used)) → P rule
     by_reading_lem P f =
         let x = to_the_last_octet w (not_plain w st) rd s rule e in
         let front = front_of w rd in

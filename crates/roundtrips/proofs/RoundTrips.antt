@@ -22,7 +22,10 @@ use mathlib.Core.Bool.{Bool}
 use mathlib.Core.List.{List, [], ◌++◌, map}
 use lib.ListN.{length}
 use lib.Seq.{sets}
+use Rattle.std.specs.declared.result.Result.{Result}
 use Rattle.ground.specs.Answers.{accepts}
+use Rattle.refusals.specs.declared.Fault.{Fault}
+use Rattle.refusals.specs.Refusals.{answered}
 use Rattle.choices.specs.declared.Reading.{Reading}
 use Rattle.choices.specs.declared.Reading.TheVariants.{Plain}
 use Rattle.choices.specs.Choices.{family_of}
@@ -33,12 +36,11 @@ use Rattle.walk.specs.Walks.{body}
 use Rattle.measuring.specs.Bodies.{lent, ops_of}
 use Rattle.measuring.specs.Grounds.{all_operators}
 use Rattle.measuring.proofs.Laws.{standard_shows}
-use Rattle.reading.specs.declared.ReadInto.{ReadInto}
-use Rattle.reading.specs.Readings.{ReadRule, read_rule, read_at, standard_into, told_into}
+use Rattle.reading.specs.declared.Taken.{Taken}
+use Rattle.reading.specs.Readings.{ReadRule, read_rule, read_at, standard_into}
 use Rattle.reading.proofs.Laws.{Exact, to_the_last_octet}
 use Rattle.reading.proofs.Once.{into_once}
-use Rattle.writing.specs.declared.Written.{Written}
-use Rattle.writing.specs.Writings.{written_from, written_in, told_written}
+use Rattle.writing.specs.Writings.{written_from, written_in}
 use Rattle.writing.proofs.Laws.{written_named, written_in_lem}
 use Rattle.writing.proofs.Once.{written_once as IsWritten-one}
 use Rattle.roundtrips.specs.Trips.{canonical, Canonical, expected, Words, Room, Again}
@@ -101,8 +103,8 @@ pub body_exact : (w : Reading) → (w ≡ Plain → ⊥) → (rd : Bool) (s : Li
 body_exact = to_the_last_octet
 
 -- (d)
-pub read_once : (a b : ReadInto) → told_into a ≡ told_into b → a ≡ b
+pub read_once : (a b : Result Taken Fault) → answered a ≡ answered b → a ≡ b
 read_once = into_once
 
-pub written_once : (a b : Written) → told_written a ≡ told_written b → a ≡ b
+pub written_once : (a b : Result ℕ Fault) → answered a ≡ answered b → a ≡ b
 written_once = IsWritten-one

@@ -7,13 +7,13 @@ use mathlib.Core.List.{List, ◌++◌, append_assoc}
 use native.Mathlib.Omega.{arith}
 use lib.ListN.{length, take, length-append}
 use lib.Seq.{take-append_seam, drop-append_seam}
+use Rattle.std.specs.Prelude.{Option}
 use Rattle.ground.specs.Answers.{Answer, answer_by, accepts}
 use Rattle.octets.specs.declared.Length.{Length}
 use Rattle.octets.specs.Lengths.{length_at, length_octets}
 use Rattle.choices.specs.declared.Reading.{Reading}
 use Rattle.choices.specs.declared.Reading.TheVariants.{Plain, Ipv4, Ipv6}
 use Rattle.choices.specs.Choices.{bound_of, front_of, family_of}
-use Rattle.rules.specs.declared.Distinguisher.{Distinguisher}
 use Rattle.stored.specs.Stored.{StoredRule, rule_at}
 use Rattle.walk.specs.Walks.{Body, walk_at}
 use Rattle.reading.specs.Readings.{read_rule, ruled, part, front_at, too_long, read_at}
@@ -59,7 +59,7 @@ middle hs bs ys =
 
 module _ (w : Reading) (st : Standard w) where
   -- a body behind a distinguisher
-  read_whole : (d : Distinguisher) → Word d → (bs : List ℕ) (b : Body) → length (distinguisher_octets w d ++ bs) ≤ 4095 → walk_at w bs (length bs) ≡ accepts b → (ys : List ℕ)
+  read_whole : (d : Option ℕ) → Word d → (bs : List ℕ) (b : Body) → length (distinguisher_octets w d ++ bs) ≤ 4095 → walk_at w bs (length bs) ≡ accepts b → (ys : List ℕ)
       → read_at w (expected d) (nlri_octets (distinguisher_octets w d ++ bs) ++ ys) ≡ accepts (read_rule b (family_of w) d (length (nlri_octets (distinguisher_octets w d ++ bs))))
   read_whole d word bs b h q ys =
       let ds = distinguisher_octets w d in
@@ -84,7 +84,7 @@ module _ (w : Reading) (st : Standard w) where
       ap (λ (t : List ℕ). front_at front (hs ++ t) (length hs)) (append_assoc ds bs ys) ∙ front_back w st d word hs (bs ++ ys) in
       ap (read_at w rd) (append_assoc hs xs ys)
       ∙ read_stated w st rd s l b (length_back (length xs) (xs ++ ys) h) k (omega arith) (ap₂ (λ (t : List ℕ) (j : ℕ). walk_at w t j) seen z ∙ q)
-      ∙ ap₂ (λ (x : Distinguisher) (j : ℕ). accepts (read_rule b (family_of w) x j)) is (sym (length-append hs xs))
+      ∙ ap₂ (λ (x : Option ℕ) (j : ℕ). accepts (read_rule b (family_of w) x j)) is (sym (length-append hs xs))
 
   -- what a writing takes
   pub taken_back : (s : StoredRule) (values octets : List ℕ) → AllSound s.pieces → Word s.head.distinguisher

@@ -1,11 +1,9 @@
 -- What a round trip is. A lent rule may name the places of its operators in any order, and reserved bits in their octets are written 0; a
 -- reading counts places from 0 on, one component after the other. So what comes back of a written rule is its canonical form: the same
 -- components with the same operators, counted so, reserved bits 0. What comes back of a rule that was read is that rule (`Again`).
-use Rattle.std.specs.Prelude.{ℕ, ◌+◌, ◌^◌, ◌≤◌, ◌<◌, ◌≡◌, Bool, true, false, List, [], ◌∷◌, ◌++◌, map, length, get_or}
+use Rattle.std.specs.Prelude.{ℕ, ◌+◌, ◌^◌, ◌≤◌, ◌<◌, ◌≡◌, Bool, true, false, List, [], ◌∷◌, ◌++◌, map, length, get_or, None, Some, Option}
 use Rattle.ground.specs.Answers.{Answer, accepts}
 use Rattle.operators.specs.Ops.{kind_of, Op}
-use Rattle.rules.specs.declared.Distinguisher.{Distinguisher}
-use Rattle.rules.specs.declared.Distinguisher.TheVariants.{Absent, Is}
 use Rattle.stored.specs.declared.Piece.{Piece}
 use Rattle.stored.specs.declared.Piece.TheVariants.{Prefix, Operators, NoRecord}
 use Rattle.stored.specs.Pieces.{type_of}
@@ -55,9 +53,9 @@ pub record Canonical (s : StoredRule) (values octets : List ℕ) : Type 0 where
   pub clear : cleared (lent values octets s.head.first) s.pieces ≡ named (lent values octets s.head.first) s.pieces
 
 -- a reading of what was written of a rule is told whether the rule has a distinguisher
-abbrev pub expected : Distinguisher → Bool
-expected Absent = false
-expected (Is n) = true
+abbrev pub expected : Option ℕ → Bool
+expected None = false
+expected (Some n) = true
 
 -- what every lent word is
 abbrev pub Words : List ℕ → Type 0

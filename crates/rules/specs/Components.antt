@@ -1,12 +1,12 @@
 -- What a component is, by its type, and what a rule is made of: document 01, "The length and the component walk"; mod.rs.
-use Rattle.std.specs.Prelude.{ℕ, List, [], ◌∷◌, map, Bool, false, ◌||◌, ◌&&◌, not, get_or, take, eqb, ltb}
+use Rattle.std.specs.Prelude.{ℕ, List, Bool, ◌||◌, ◌&&◌, not, get_or, take, eqb, ltb}
+use Rattle.std.specs.List.{list_any}
 use Rattle.ground.specs.Picks.{pick}
 use Rattle.rules.specs.declared.NetworkPrefix.{NetworkPrefix}
 use Rattle.rules.specs.declared.NetworkPrefix.TheVariants.{Ipv4, Ipv6, Ipv4Offset, Ipv6Offset}
 use Rattle.rules.specs.declared.Span.{Span}
 use Rattle.rules.specs.declared.FlowSpecComponent.{FlowSpecComponent}
 use Rattle.rules.specs.declared.FlowSpecComponent.TheVariants.{Nothing, DestinationPrefix, SourcePrefix, IpProtocol, Port, DestinationPort, SourcePort, IcmpType, IcmpCode, TcpFlags, PacketLength, Dscp, Fragment, FlowLabel}
-use Rattle.rules.specs.declared.Slot.{Slot}
 use Rattle.rules.specs.declared.FlowSpecNlri.{FlowSpecNlri}
 
 -- RFC 8955, 4.2.2; RFC 8956, 3: the component types. An unused place has none
@@ -75,20 +75,12 @@ counts_as (Fragment s) = 0
 counts_as (FlowLabel s) = 6
 
 -- whether one of some components counts so
-unfoldable pub holds_one : ℕ → List FlowSpecComponent → Bool
-holds_one mark [] = false
-holds_one mark (c ∷ cs) = eqb (counts_as c) mark || holds_one mark cs
-
--- the component of a slot, and a slot that holds one
-abbrev pub held : Slot → FlowSpecComponent
-held s = s.component
-
-abbrev pub slot_of : FlowSpecComponent → Slot
-slot_of c = record { component = c }
+abbrev pub holds_one : ℕ → List FlowSpecComponent → Bool
+holds_one mark cs = list_any (λ c. eqb (counts_as c) mark) cs
 
 -- "at most 13 component records": those of the slots that the count covers
-abbrev pub covered : ℕ → List Slot → List FlowSpecComponent
-covered count slots = map held (take count slots)
+abbrev pub covered : ℕ → List FlowSpecComponent → List FlowSpecComponent
+covered count slots = take count slots
 
 abbrev pub components_of : FlowSpecNlri → List FlowSpecComponent
 components_of r = covered r.count r.slots

@@ -2,8 +2,8 @@
 // operators themselves stand in lent lists.
 #![tactic(auto)]
 
-ghost use Rattle.std.specs.Prelude.{◌≡◌, get_or};
-ghost use Rattle.rules.specs.Components.{type_of, bitmask_type, numeric_type, prefix_of, list_of, prefix_counts, counts_as, holds_one, covered, components_of, component_in};
+ghost use Rattle.std.specs.Prelude.{◌≡◌, eqb, None};
+ghost use Rattle.rules.specs.Components.{type_of, bitmask_type, numeric_type, prefix_of, list_of, counts_as, holds_one, components_of, component_in};
 
 // An address with a length. The two forms with an offset are RFC 8956's; the Rust has them as components of their own.
 #[derive(Clone, Copy)]
@@ -56,41 +56,15 @@ pub enum FlowSpecComponent {
     FlowLabel(Span),
 }
 
-// A struct around the enum: a field can't be an array of enums.
-#[derive(Clone, Copy)]
-pub struct Slot {
-    pub component: FlowSpecComponent,
-}
-
-// The route distinguisher of a rule: a rule of a virtual network has one, eight octets, held as the number that they spell.
-#[derive(Clone, Copy)]
-pub enum Distinguisher {
-    Absent,
-    Is(u64),
-}
-
 // At most 13 components. `family` is 0 for a plain rule, else 4 or 6; `first` is the place in the lent lists where the rule's operators
-// begin, 0 as a reading gives it.
+// begin, 0 as a reading gives it. A rule of a virtual network has a route distinguisher: eight octets, held as the number that they spell.
 #[derive(Clone, Copy)]
 pub struct FlowSpecNlri {
-    pub slots: [Slot; 13],
+    pub slots: [FlowSpecComponent; 13],
     pub count: usize,
     pub family: u8,
     pub first: usize,
-    pub distinguisher: Distinguisher,
-}
-
-impl NetworkPrefix {
-    fn counts_as(self) -> u8
-        ensures { result ≡ prefix_counts self }
-    {
-        match self {
-            NetworkPrefix::Ipv4 { .. } => 4,
-            NetworkPrefix::Ipv6 { .. } => 6,
-            NetworkPrefix::Ipv4Offset { .. } => 6,
-            NetworkPrefix::Ipv6Offset { .. } => 6,
-        }
-    }
+    pub distinguisher: Option<u64>,
 }
 
 impl FlowSpecComponent {
@@ -127,25 +101,33 @@ impl FlowSpecComponent {
         is_bitmask(self.component_type())
     }
 
-    // What the component counts as where a rule is asked for one: 4 or 6 for a family, 1 for nothing, else 0.
-    pub fn counts_as(self) -> u8
-        ensures { result ≡ counts_as self }
+    pub fn is_nothing(self) -> bool
+        ensures { result ≡ eqb (counts_as self) 1 }
+    {
+        matches!(self, FlowSpecComponent::Nothing)
+    }
+
+    // A prefix is of IPv4 or IPv6 by its address, but each form with an offset is IPv6, whatever address it holds; so is a flow label.
+    pub fn is_ipv4(self) -> bool
+        ensures { result ≡ eqb (counts_as self) 4 }
+    {
+        matches!(
+            self,
+            FlowSpecComponent::DestinationPrefix(NetworkPrefix::Ipv4 { .. })
+                | FlowSpecComponent::SourcePrefix(NetworkPrefix::Ipv4 { .. })
+        )
+    }
+
+    pub fn is_ipv6(self) -> bool
+        ensures { result ≡ eqb (counts_as self) 6 }
     {
         match self {
-            FlowSpecComponent::Nothing => 1,
-            FlowSpecComponent::DestinationPrefix(prefix) => prefix.counts_as(),
-            FlowSpecComponent::SourcePrefix(prefix) => prefix.counts_as(),
-            FlowSpecComponent::IpProtocol(_) => 0,
-            FlowSpecComponent::Port(_) => 0,
-            FlowSpecComponent::DestinationPort(_) => 0,
-            FlowSpecComponent::SourcePort(_) => 0,
-            FlowSpecComponent::IcmpType(_) => 0,
-            FlowSpecComponent::IcmpCode(_) => 0,
-            FlowSpecComponent::TcpFlags(_) => 0,
-            FlowSpecComponent::PacketLength(_) => 0,
-            FlowSpecComponent::Dscp(_) => 0,
-            FlowSpecComponent::Fragment(_) => 0,
-            FlowSpecComponent::FlowLabel(_) => 6,
+            FlowSpecComponent::DestinationPrefix(prefix)
+            | FlowSpecComponent::SourcePrefix(prefix) => {
+                !matches!(prefix, NetworkPrefix::Ipv4 { .. })
+            }
+            FlowSpecComponent::FlowLabel(_) => true,
+            _ => false,
         }
     }
 }
@@ -154,19 +136,13 @@ impl FlowSpecComponent {
 fn is_bitmask(tag: u8) -> bool
     ensures { result ≡ bitmask_type tag }
 {
-    if tag == 9 {
-        return true;
-    }
-    tag == 12
+    matches!(tag, 9 | 12)
 }
 
 fn is_numeric(tag: u8) -> bool
     ensures { result ≡ numeric_type tag }
 {
-    if tag < 3 {
-        return false;
-    }
-    !is_bitmask(tag)
+    tag >= 3 && !is_bitmask(tag)
 }
 
 // The prefix component of a type, 1 or 2.
@@ -181,6 +157,7 @@ pub fn prefix_of(tag: u8, prefix: NetworkPrefix) -> FlowSpecComponent
 }
 
 // The list component of a type, 3 to 13.
+#[tactic(auto, unfolding(crate::specs::Components::list_of))]
 pub fn list_of(tag: u8, span: Span) -> FlowSpecComponent
     ensures { result ≡ list_of tag span }
 {
@@ -199,76 +176,58 @@ pub fn list_of(tag: u8, span: Span) -> FlowSpecComponent
     }
 }
 
-fn component_in(slots: [Slot; 13], count: usize, place: usize) -> FlowSpecComponent
-    ensures { result ≡ get_or (covered count slots) place FlowSpecComponent.Nothing }
-{
-    if count <= place {
-        return FlowSpecComponent::Nothing;
-    }
-    if 13 <= place {
-        return FlowSpecComponent::Nothing;
-    }
-    let slot = slots[place];
-    slot.component
-}
-
-fn holds_in(slots: [Slot; 13], count: usize, mark: u8) -> bool
-    ensures { result ≡ holds_one mark (covered count slots) }
-{
-    let mut i = 0;
-    while i < 13 {
-        if count <= i {
-            return false;
-        }
-        let slot = slots[i];
-        let component = slot.component;
-        if component.counts_as() == mark {
-            return true;
-        }
-        i += 1;
-    }
-    false
-}
-
 impl FlowSpecNlri {
     // A plain rule without a distinguisher, whose operators stand at the start of the lent lists.
-    pub fn new(slots: [Slot; 13], count: usize) -> FlowSpecNlri
-        ensures { result ≡ record { slots = slots; count = count; family = 0; first = 0; distinguisher = Distinguisher.Absent } }
+    pub fn new(slots: [FlowSpecComponent; 13], count: usize) -> FlowSpecNlri
+        ensures { result ≡ record { slots = slots; count = count; family = 0; first = 0; distinguisher = None } }
     {
         FlowSpecNlri {
-            slots: slots,
-            count: count,
+            slots,
+            count,
             family: 0,
             first: 0,
-            distinguisher: Distinguisher::Absent,
+            distinguisher: None,
         }
+    }
+
+    fn components(&self) -> &[FlowSpecComponent]
+        ensures { result.now ≡ components_of self.now }
+    {
+        &self.slots[..self.count.min(13)]
     }
 
     // The component at a place, Nothing past the last.
     pub fn component(self, place: usize) -> FlowSpecComponent
         ensures { result ≡ component_in self place }
     {
-        let slots = self.slots;
-        component_in(slots, self.count, place)
+        self.components()
+            .get(place)
+            .copied()
+            .unwrap_or(FlowSpecComponent::Nothing)
     }
 
-    // Whether one of the components counts so.
-    pub fn holds(self, mark: u8) -> bool
-        ensures { result ≡ holds_one mark (components_of self) }
+    // Whether one of the components is Nothing, so that it is no rule.
+    pub fn holds_nothing(self) -> bool
+        ensures { result ≡ holds_one 1 (components_of self) }
     {
-        let slots = self.slots;
-        holds_in(slots, self.count, mark)
+        self.components()
+            .iter()
+            .any(|component| component.is_nothing())
     }
 
     pub fn is_ipv4(self) -> bool
         ensures { result ≡ holds_one 4 (components_of self) }
     {
-        self.holds(4)
+        self.components()
+            .iter()
+            .any(|component| component.is_ipv4())
     }
 
     pub fn is_ipv6(self) -> bool
         ensures { result ≡ holds_one 6 (components_of self) }
     {
-        self.holds(6)
+        self.components()
+            .iter()
+            .any(|component| component.is_ipv6())
     }
 }

@@ -1,10 +1,10 @@
 -- The groups of a list, read from the left: `going g os` is the answer where the group so far has the truth g.
 use Prim.Native.Nat.{ℕ, suc, ◌+◌, ◌-◌, ◌≤◌, ◌<◌}
-use mathlib.Core.Path.{◌≡◌, refl, sym, ap₂, ◌∙◌}
+use mathlib.Core.Path.{◌≡◌, refl, sym, ap, ap₂, ◌∙◌}
 use mathlib.Core.List.{List, [], ◌∷◌}
 use mathlib.Core.Bool.{Bool, true, false, not, ◌&&◌, ◌||◌, false≢true}
 use native.Mathlib.Omega.{arith}
-use lib.ListN.{get_or}
+use lib.ListN.{length, get_or}
 use Rattle.ground.proofs.Cases.{by_test, both}
 use Rattle.operators.specs.Ops.{Op, op, ops_in}
 use Rattle.satisfying.specs.Lists.{and_of, joined, later, groups, all, any, list_matches}
@@ -80,44 +80,43 @@ module _ (t u : Op → Bool) (test : Op → Bool) (same : (o : Op) → test o �
 abbrev op_at : List ℕ → List ℕ → ℕ → Op
 op_at values octets p = op (get_or octets p 0) (get_or values p 0)
 
-module _ (values octets : List ℕ) (at count : ℕ) where
-  -- the operators that are left after i
+module _ (values octets : List ℕ) (end : ℕ) where
+  -- the operators from a place on, up to the end
   unfoldable pub left : ℕ → List Op
-  left i = ops_in values octets (at + i) (count - i)
+  left p = ops_in values octets p (end - p)
 
-  left_more : (i : ℕ) → i < count → left i ≡ op_at values octets (at + i) ∷ left (i + 1)
+  left_more : (p : ℕ) → p < end → left p ≡ op_at values octets p ∷ left (p + 1)
   unfolding left ops_in
-  left_more i h =
-      let e : count - i ≡ suc (count - (i + 1)) = omega arith in
-      let f : at + i + 1 ≡ at + (i + 1) = omega arith in
-      rw (e, f)
+  left_more p h = let e : end - p ≡ suc (end - (p + 1)) = omega arith in rw e
 
-  left_none : (i : ℕ) → count ≤ i → left i ≡ []
+  left_none : (p : ℕ) → end ≤ p → left p ≡ []
   unfolding left ops_in
-  left_none i h = let e : count - i ≡ 0 = omega arith in rw e
-
-  left_all : ops_in values octets at count ≡ left 0
-  unfolding left
-  left_all = let e : count - 0 ≡ count = omega arith in let f : at + 0 ≡ at = omega arith in rw (e, f)
+  left_none p h = let e : end - p ≡ 0 = omega arith in rw e
 
   module _ (t : Op → Bool) where
-    pub none_match : count ≡ 0 → false ≡ list_matches t (ops_in values octets at count)
-    unfolding ops_in
-    none_match e = sym (rw e (nothing t))
+    pub first_match : (at : ℕ) → at < end → list_matches t (left at) ≡ going t (t (op_at values octets at)) (left (at + 1))
+    first_match at h = rw (left_more at h) (starts t (op_at values octets at) (left (at + 1)))
 
-    pub first_match : 0 < count → list_matches t (ops_in values octets at count) ≡ going t (t (op_at values octets at)) (left 1)
-    first_match h =
-        let f : at + 0 ≡ at = omega arith in
-        let e : ops_in values octets at count ≡ op_at values octets at ∷ left 1 = left_all ∙ left_more 0 h ∙ rw f in
-        rw e (starts t (op_at values octets at) (left 1))
+    module _ (g : Bool) (p : ℕ) where
+      pub turn_on : p < end → (not (and_of (op_at values octets p)) && g) ≡ false
+          → going t g (left p) ≡ going t ((not (and_of (op_at values octets p)) || g) && t (op_at values octets p)) (left (p + 1))
+      turn_on h k = rw (left_more p h) (goes_on t g (op_at values octets p) (left (p + 1)) _ refl k)
 
-    module _ (g : Bool) (i : ℕ) where
-      pub turn_on : i < count → (not (and_of (op_at values octets (at + i))) && g) ≡ false
-          → going t g (left i) ≡ going t ((not (and_of (op_at values octets (at + i))) || g) && t (op_at values octets (at + i))) (left (i + 1))
-      turn_on h k = rw (left_more i h) (goes_on t g (op_at values octets (at + i)) (left (i + 1)) _ refl k)
+      pub turn_stop : p < end → (not (and_of (op_at values octets p)) && g) ≡ true → going t g (left p) ≡ true
+      turn_stop h k = rw (left_more p h) (stops t g (op_at values octets p) (left (p + 1)) _ refl k)
 
-      pub turn_stop : i < count → (not (and_of (op_at values octets (at + i))) && g) ≡ true → going t g (left i) ≡ true
-      turn_stop h k = rw (left_more i h) (stops t g (op_at values octets (at + i)) (left (i + 1)) _ refl k)
+      pub turn_end : end ≤ p → going t g (left p) ≡ g
+      turn_end h = rw (left_none p h) (ends t g)
 
-      pub turn_end : count ≤ i → going t g (left i) ≡ g
-      turn_end h = rw (left_none i h) (ends t g)
+-- of a whole list
+module _ (values octets : List ℕ) (t : Op → Bool) where
+  pub none_match : length octets ≡ 0 → false ≡ list_matches t (ops_in values octets 0 (length octets))
+  unfolding ops_in
+  none_match e = sym (rw e (nothing t))
+
+  pub some_match : 0 < length octets
+      → list_matches t (ops_in values octets 0 (length octets)) ≡ going t (t (op_at values octets 0)) (left values octets (length octets) 1)
+  unfolding left
+  some_match h =
+      let e : length octets ≡ length octets - 0 = omega arith in
+      ap (λ (n : ℕ). list_matches t (ops_in values octets 0 n)) e ∙ first_match values octets (length octets) t 0 h

@@ -1,13 +1,13 @@
 // Whether a number satisfies a list of operators: truth of one operator, groups joined by AND, and a list of them.
-//
-// The functions with a `requires` are no entry points: they serve a caller that has tested where the operators stand.
 #![tactic(auto)]
 
-ghost use Rattle.std.specs.Prelude.{◌≡◌, ◌+◌, ◌≤◌, length};
-ghost use Rattle.operators.specs.Ops.{op, ops_in};
+ghost use Rattle.std.specs.Prelude.{◌≡◌};
+ghost use Rattle.operators.specs.Ops.{op};
+ghost use Rattle.operators.specs.Lent.{operators_of};
 ghost use Rattle.satisfying.specs.Lists.{compared, met, masked, truth_of, list_matches};
 
-use operators::Kind;
+use operators::{Kind, OperatorList};
+use std::cmp::Ordering;
 
 // How a list is put to a number: by comparisons or by masks, and in which bits an operator's value counts.
 #[derive(Clone, Copy)]
@@ -40,15 +40,13 @@ const MEANINGS: [u8; 8] = [
 fn compare(octet: u8, value: u64, datum: u64) -> bool
     ensures { result ≡ compared octet value datum }
 {
-    let row = (octet % 8) as usize;
-    let meaning = MEANINGS[row];
-    if datum < value {
-        meaning & LESS != 0
-    } else if datum == value {
-        meaning & EQUAL != 0
-    } else {
-        meaning & GREATER != 0
-    }
+    let meaning = MEANINGS[usize::from(octet % 8)];
+    let way = match datum.cmp(&value) {
+        Ordering::Less => LESS,
+        Ordering::Equal => EQUAL,
+        Ordering::Greater => GREATER,
+    };
+    meaning & way != 0
 }
 
 // 0x01 match: all bits of the value; else some of them.
@@ -64,55 +62,41 @@ fn meets(octet: u8, value: u64, datum: u64) -> bool
 }
 
 // 0x02 NOT inverts.
+#[tactic(auto, using(crate::proofs::Truths::turned))]
 fn mask(octet: u8, value: u64, datum: u64) -> bool
     ensures { result ≡ masked octet value datum }
 {
-    if octet / 2 % 2 == 1 {
-        !meets(octet, value, datum)
-    } else {
-        meets(octet, value, datum)
-    }
+    let inverts = octet / 2 % 2 == 1;
+    meets(octet, value, datum) != inverts
 }
 
 // One operator of a number.
 fn truth(test: Test, octet: u8, value: u64, datum: u64) -> bool
     ensures { result ≡ truth_of test datum (op octet value) }
 {
-    let kind = test.kind;
     let counted = value & test.bits;
-    match kind {
+    match test.kind {
         Kind::Numeric => compare(octet, counted, datum),
         Kind::Bitmask => mask(octet, counted, datum),
     }
 }
 
-// Whether a number satisfies the list of count operators from a place on. The first group that is true answers. No entry point.
-pub fn list_matches(
-    test: Test,
-    values: &[u64],
-    octets: &[u8],
-    at: usize,
-    count: usize,
-    datum: u64,
-) -> bool
-    requires values { at + count ≤ length values.now }
-    requires octets { at + count ≤ length octets.now }
-    ensures { result ≡ list_matches (truth_of test datum) (ops_in values.now octets.now at count) }
+// Whether a number satisfies a list of operators. The first group that is true answers.
+pub fn list_matches(test: Test, list: OperatorList, datum: u64) -> bool
+    ensures { result ≡ list_matches (truth_of test datum) (operators_of list.entry) }
 {
-    if count == 0 {
+    let OperatorList { values, octets } = list;
+    if octets.is_empty() {
         return false;
     }
-    let mut group = truth(test, octets[at], values[at], datum);
-    let mut i: usize = 1;
-    while i < count {
-        let place = at + i;
+    let mut group = truth(test, octets[0], values[0], datum);
+    for place in 1..octets.len() {
         let octet = octets[place];
         let and = octet / 64 % 2 == 1;
         if !and & group {
             return true;
         }
         group = (!and | group) & truth(test, octet, values[place], datum);
-        i += 1;
     }
     group
 }

@@ -10,10 +10,10 @@ use borrow.Author.Tests.{lt-ltb, le-ltb, le-leb, leb-false, eqb-true, eq-eqb}
 use lib.Dec.{ltb, leb, eqb}
 use lib.ListN.{length, get_or, take, drop, replicate, length-append, length-drop, length-replicate, take-append-drop}
 use lib.Seq.{sets, sets-eq, length-sets, drop_at, drop-drop, get_or-drop, take-add, drop-cons, length-take-le}
+use Rattle.std.specs.Prelude.{Option}
 use Rattle.ground.proofs.Cases.{both}
 use Rattle.ground.specs.Answers.{Answer, accepts, refuses}
 use Rattle.ground.specs.Picks.{pick}
-use Rattle.rules.specs.declared.Distinguisher.{Distinguisher}
 use Rattle.rules.specs.declared.NetworkPrefix.{NetworkPrefix}
 use Rattle.rules.specs.declared.NetworkPrefix.TheVariants.{Ipv4, Ipv6, Ipv4Offset, Ipv6Offset}
 use Rattle.stored.specs.declared.Quad.{Quad}
@@ -241,7 +241,7 @@ module _ (ps : List Piece) (h : Head) (few : length ps ≤ 13) (fit : FitAll ps)
             ∙ rw (le-leb n 13 few, lt-ltb h.family 256 octet, put_tested ws at h.distinguisher w3 w4, b.0, l.0, a.1),
         ap₂ (λ (m f : ℕ). stored_rule (pieces_from m ws at) (head f (get_or ws (at + 54) 0) (distinguisher_at ws at))) w0 w1
             ∙ ap₂ (λ (x : List Piece) (g : ℕ). stored_rule x (head h.family g (distinguisher_at ws at))) a.0 w2
-            ∙ ap (λ (d : Distinguisher). stored_rule ps (head h.family h.first d)) (put_named ws at h.distinguisher w3 w4),
+            ∙ ap (λ (d : Option ℕ). stored_rule ps (head h.family h.first d)) (put_named ws at h.distinguisher w3 w4),
       )
 
   -- put, then read

@@ -1,6 +1,5 @@
 pub mod Distinguishers
 pub mod Inverse
 pub mod Scans
-pub mod Tests
 pub mod Views
 pub mod Words

@@ -9,11 +9,10 @@ use Rattle.ground.proofs.Cases.{lt_or_le}
 use Rattle.ground.specs.Picks.{pick}
 use Rattle.rules.specs.declared.NetworkPrefix.TheVariants.{Ipv6Offset}
 use Rattle.stored.specs.declared.Quad.{Quad}
-use Rattle.stored.specs.declared.View.{View}
 use Rattle.stored.specs.declared.Piece.{Piece}
 use Rattle.stored.specs.declared.Piece.TheVariants.{Prefix, Operators, NoRecord}
 use Rattle.stored.specs.Pieces.{named, is_piece, piece_of}
-use Rattle.stored.specs.Views.{NoList, Shows}
+use Rattle.stored.specs.Views.{NoList}
 use Rattle.stored.proofs.Words.{piece_prefix, piece_far, piece_list}
 
 either : (b : Bool) (p : Piece) → NoList p → NoList (pick b p NoRecord)
@@ -49,7 +48,3 @@ module _ (q : Quad) where
       sym (piece_prefix q true (q.mark - 48) (omega arith) (omega arith) (omega arith) (Ipv6Offset (q.a % 256) (q.a / 256) q.b q.c)
       (rw f (ap (λ (x : ℕ). Ipv6Offset (q.a % 256) x q.b q.c) o))
       (rw (eq-eqb (q.mark - 48 + 48) q.mark t, eq-eqb (q.a % 256 + 256 * (q.a / 256)) q.a s, eq-eqb q.b q.b refl, eq-eqb q.c q.c refl)))
-
--- a view of no form shows what is no list
-pub shows_none : (v : View) (p : Piece) → v.form ≡ 0 → NoList p → Shows v p
-shows_none v p e n = record { list = λ f. absurd (omega arith); ipv4 = λ f. absurd (omega arith); ipv6 = λ f. absurd (omega arith); other = λ f. n }

@@ -5,19 +5,18 @@ use mathlib.Core.Path.{◌≡◌, refl, sym, ap, ap₂, ◌∙◌}
 use mathlib.Core.List.{List, [], ◌∷◌, ◌++◌, append_assoc}
 use mathlib.Core.Bool.{Bool, true, false, ◌&&◌, and-true, and-false}
 use mathlib.Core.Logic.{⊎_elim}
-use native.Mathlib.Numerals.{add-one}
 use native.Mathlib.Omega.{arith}
-use lib.ListN.{length, get_or, set, replicate, length-append, length-replicate}
-use lib.Seq.{sets}
+use lib.ListN.{length, get_or, take, drop, replicate, length-append, length-replicate}
+use lib.Seq.{sets, sets-eq, drop-drop}
 use lib.Bits.{bit_or}
 use lib.Dec.{eqb, leb, ltb}
+use borrow.Rule.Slice.PartMut.{put_mid}
 use borrow.Author.Tests.{eq-eqb, ne_eqb, lt-ltb, le-ltb, ltb-true, le-leb, lt-leb, leb-true}
+use Rattle.std.specs.Prelude.{None, Some, Option}
 use Rattle.ground.proofs.Cases.{both, lt_or_le}
 use Rattle.ground.specs.Answers.{accepts, refuses}
 use Rattle.ground.specs.Picks.{pick}
 use Rattle.ground.proofs.Overlays.{sets_append, sets_again}
-use Rattle.rules.specs.declared.Distinguisher.{Distinguisher}
-use Rattle.rules.specs.declared.Distinguisher.TheVariants.{Absent, Is}
 use Rattle.rules.specs.declared.NetworkPrefix.{NetworkPrefix}
 use Rattle.rules.specs.declared.NetworkPrefix.TheVariants.{Ipv4}
 use Rattle.stored.proofs.Distinguishers.{test_absent}
@@ -84,13 +83,11 @@ ipv4_words q t e l h m z i j =
     piece_prefix q true t e l h (Ipv4 q.a q.b) (rw (eq-eqb (q.mark / 16) 0 n) (ap₂ Ipv4 f g))
     (rw (eq-eqb t q.mark k, eq-eqb q.a q.a refl, eq-eqb q.b q.b refl, eq-eqb 0 q.c (sym z)))
 
--- four words stored one by one
-pub sets_four : (l : List ℕ) (at x y z w : ℕ) → set (set (set (set l at x) (at + 1) y) (at + 2) z) (at + 3) w ≡ sets l at (x ∷ y ∷ z ∷ w ∷ [])
-sets_four l at x y z w =
-    let e : at + 1 ≡ suc at = omega arith in
-    let f : at + 2 ≡ suc (suc at) = omega arith in
-    let g : at + 3 ≡ suc (suc (suc at)) = omega arith in
-    rw (e, f, g)
+-- a part that is written over is an overlay
+pub overlay : (l xs ys : List ℕ) (at k : ℕ) → xs ≡ ys → length ys ≡ k → at + k ≤ length l → put_mid at k l xs ≡ sets l at ys
+overlay l xs ys at k e n h =
+    ap (put_mid at k l) e ∙ ap (λ (z : List ℕ). take at l ++ (ys ++ z)) (drop-drop k at l) ∙ ap (λ (j : ℕ). take at l ++ (ys ++ drop (at + j) l)) (sym n)
+    ∙ sym (append_assoc (take at l) ys (drop (at + length ys) l)) ∙ sym (sets-eq ys l at (omega (arith, n)))
 
 -- ---- turns of the loops
 
@@ -110,16 +107,6 @@ module _ (ws : List ℕ) (base count i : ℕ) where
 
     pub records_by : (t : Bool) → is_record (piece_at ws (base + 4 * i)) ≡ t → records_from (count - i) ws (base + 4 * i) ≡ (t && records_from (count - (i + 1)) ws (base + 4 * (i + 1)))
     records_by t n = records_turn ∙ ap (λ (b : Bool). b && records_from (count - (i + 1)) ws (base + 4 * (i + 1))) n
-
--- a turn of `put_zeros`
-module _ (l₀ l : List ℕ) (from at to : ℕ) (so : sets l₀ from (replicate (to - from) 0) ≡ sets l at (replicate (to - at) 0)) where
-  pub blank_more : at < to → sets l₀ from (replicate (to - from) 0) ≡ sets (set l at 0) (at + 1) (replicate (to - (at + 1)) 0)
-  blank_more h =
-      let e : to - at ≡ suc (to - (at + 1)) = omega arith in
-      so ∙ ap (λ (j : ℕ). sets l at (replicate j 0)) e ∙ ap (λ (j : ℕ). sets (set l at 0) j (replicate (to - (at + 1)) 0)) (sym (add-one at))
-
-  pub blank_end : to ≤ at → l ≡ sets l₀ from (replicate (to - from) 0)
-  blank_end h = let e : to - at ≡ 0 = omega arith in sym (so ∙ ap (λ (j : ℕ). sets l at (replicate j 0)) e)
 
 -- ---- the pieces of one place more, and how many there are
 pub pieces_more : (k : ℕ) (ws : List ℕ) (at : ℕ) → pieces_from (suc k) ws at ≡ pieces_from k ws at ++ (piece_at ws (at + 4 * k) ∷ [])
@@ -151,7 +138,7 @@ length_all (p ∷ ps) = let h = length_all ps in omega arith
 -- the stores of a rule are one
 pub tail_whole : (l₀ l₁ l₂ l₃ : List ℕ) (base n family first : ℕ) → n ≤ 13 → l₁ ≡ sets l₀ (base + 4 * n) (replicate (base + 52 - (base + 4 * n)) 0)
     → l₂ ≡ sets l₁ (base + 52) (n ∷ family ∷ first ∷ 0 ∷ []) → l₃ ≡ sets l₂ (base + 56) (replicate (base + 64 - (base + 56)) 0)
-    → l₃ ≡ sets l₀ (base + 4 * n) (tail_words n (head family first Absent))
+    → l₃ ≡ sets l₀ (base + 4 * n) (tail_words n (head family first None))
 unfolding tail_words
 tail_whole l₀ l₁ l₂ l₃ base n family first h e f g =
     let z : List ℕ = replicate (52 - 4 * n) 0 in
@@ -177,11 +164,11 @@ rule_whole l₀ l₁ l₂ base n h ps m e f =
     ∙ ap (λ (j : ℕ). sets l₀ base (all_words ps ++ tail_words j h)) (sym m)
 
 -- a distinguisher put over a rule without one
-pub rule_distinguished : (ws : List ℕ) (base family first : ℕ) (ps : List Piece) → length ps ≤ 13 → (d : Distinguisher)
-    → distinguished_with d (sets ws base (rule_words ps (head family first Absent))) base ≡ sets ws base (rule_words ps (head family first d))
+pub rule_distinguished : (ws : List ℕ) (base family first : ℕ) (ps : List Piece) → length ps ≤ 13 → (d : Option ℕ)
+    → distinguished_with d (sets ws base (rule_words ps (head family first None))) base ≡ sets ws base (rule_words ps (head family first d))
 unfolding rule_words tail_words
-rule_distinguished ws base family first ps few Absent = refl
-rule_distinguished ws base family first ps few (Is n) =
+rule_distinguished ws base family first ps few None = refl
+rule_distinguished ws base family first ps few (Some n) =
     let z : List ℕ = replicate (52 - 4 * length ps) 0 in
     let y : length z ≡ 52 - 4 * length ps = length-replicate (52 - 4 * length ps) _ in
     let t : List ℕ = length ps ∷ family ∷ first ∷ [] in

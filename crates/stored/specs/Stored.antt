@@ -2,10 +2,9 @@
 -- two words and seven words 0.
 -- Words are a rule if they are framed so, with 0 wherever nothing stands, and each place within the count is a piece. Nothing outside this crate knows
 -- which word holds what.
-use Rattle.std.specs.Prelude.{ℕ, zero, suc, ◌+◌, ◌-◌, ◌*◌, ◌/◌, List, [], ◌∷◌, ◌++◌, Bool, true, ◌&&◌, length, get_or, replicate, ltb, leb, eqb}
+use Rattle.std.specs.Prelude.{Option, ℕ, zero, suc, ◌+◌, ◌-◌, ◌*◌, ◌/◌, List, [], ◌∷◌, ◌++◌, Bool, true, ◌&&◌, length, get_or, replicate, ltb, leb, eqb}
 use Rattle.ground.specs.Answers.{Answer, accepts, refuses}
 use Rattle.ground.specs.Picks.{pick}
-use Rattle.rules.specs.declared.Distinguisher.{Distinguisher}
 use Rattle.stored.specs.declared.Piece.{Piece}
 use Rattle.stored.specs.Pieces.{is_record, piece_words, piece_at}
 use Rattle.stored.specs.Distinguishers.{presence_word, bits_word, distinguisher_at, is_distinguisher}
@@ -14,9 +13,9 @@ use Rattle.stored.specs.Distinguishers.{presence_word, bits_word, distinguisher_
 pub record Head : Type 0 where
   pub family : ℕ
   pub first : ℕ
-  pub distinguisher : Distinguisher
+  pub distinguisher : Option ℕ
 
-abbrev pub head : ℕ → ℕ → Distinguisher → Head
+abbrev pub head : ℕ → ℕ → Option ℕ → Head
 head family first d = record { family = family; first = first; distinguisher = d }
 
 -- a rule as its words tell it

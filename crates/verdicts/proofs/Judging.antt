@@ -4,15 +4,14 @@ use mathlib.Core.Path.{◌≡◌, refl, sym, ap, ap₂, ◌∙◌}
 use mathlib.Core.Bool.{Bool, true, false, ◌&&◌, and-true, and_assoc}
 use mathlib.Core.List.{List}
 use native.Mathlib.Omega.{arith}
-use borrow.Author.Tests.{ne_eqb}
 use lib.ListN.{length, drop, length-drop}
+use Rattle.std.specs.Prelude.{Option}
+use Rattle.std.specs.declared.option.Option.TheVariants.{Some, None}
 use Rattle.ground.specs.Answers.{Answer, accepts, declines}
-use Rattle.ground.specs.Picks.{pick}
 use Rattle.ground.proofs.Cases.{both}
 use Rattle.choices.specs.declared.Reading.{Reading}
-use Rattle.rules.specs.declared.Distinguisher.{Distinguisher}
 use Rattle.stored.specs.declared.Piece.{Piece}
-use Rattle.stored.specs.Pieces.{piece_at}
+use Rattle.stored.specs.Pieces.{piece_at, type_of}
 use Rattle.stored.specs.Distinguishers.{distinguisher_at}
 use Rattle.stored.specs.Stored.{count_at, first_at, pieces_from, is_framed, stored_at}
 use Rattle.stored.proofs.Words.{framed}
@@ -29,6 +28,7 @@ use Rattle.writing.proofs.Laws.{no_frame, by_frame}
 use Rattle.verdicts.specs.declared.Step.{Step}
 use Rattle.verdicts.specs.Steps.{step_of}
 use Rattle.verdicts.specs.Verdicts.{accepted, judged}
+use Rattle.verdicts.proofs.Steps.{step_some, step_none}
 use Rattle.verdicts.proofs.RestOfWords.{piece_rest, count_rest, first_rest, distinguisher_rest, framed_rest}
 
 by_count : (a : Answer (List ℕ)) → accepted (counted a) ≡ accepted a
@@ -44,13 +44,13 @@ module _ (w : Reading) (ws : List ℕ) (base : ℕ) (values octets : List ℕ) (
   matched = rule_matches values octets p (stored_at ws base)
 
   -- there is none
-  refused : {a : Answer ℕ} → counted whole ≡ a → accepted a ≡ false → record { formed = false; met = false } ≡ judged (accepted whole) (ask && matched)
+  refused : {a : Answer ℕ} → counted whole ≡ a → accepted a ≡ false → None ≡ judged (accepted whole) (ask && matched)
   refused e f = ap (λ (b : Bool). judged b (ask && matched)) (sym f ∙ sym (ap accepted e) ∙ by_count whole)
 
   long : base + 64 ≤ length ws → 64 ≤ length (drop base ws)
   long h = omega (arith, length-drop base ws)
 
-  pub judge_frame : base + 64 ≤ length ws → is_framed ws base ≡ false → record { formed = false; met = false } ≡ judged (accepted whole) (ask && matched)
+  pub judge_frame : base + 64 ≤ length ws → is_framed ws base ≡ false → None ≡ judged (accepted whole) (ask && matched)
   judge_frame h e = refused (ap counted (no_frame w (drop base ws) values octets (long h) (framed_rest base ws ∙ e))) refl
 
   -- the octets of the distinguisher count beside those of the components
@@ -83,40 +83,46 @@ module _ (w : Reading) (ws : List ℕ) (base : ℕ) (values octets : List ℕ) (
           counts =
               ap counted (by_frame w (drop base ws) values octets (long h) (framed_rest base ws ∙ e))
               ∙ ap₂ (λ (k m : ℕ). counted (body_of w (lent values octets m) (distinguisher_at (drop base ws) 0) (pieces_from k (drop base ws) 0))) (count_rest base ws ∙ sym n) (first_rest base ws ∙ sym f)
-              ∙ ap (λ (x : Distinguisher). counted (body_of w lists x (pieces_from count (drop base ws) 0))) (distinguisher_rest base ws)
+              ∙ ap (λ (x : Option ℕ). counted (body_of w lists x (pieces_from count (drop base ws) 0))) (distinguisher_rest base ws)
               ∙ walk_first w lists (drop base ws) count (distinguisher_at ws base) refl ∙ ap (λ (b : ℕ). rest_from w lists (drop base ws) count 0 2047 0 b) z;
           meets = ap (λ (b : Bool). ask && b) (rest_starts values octets p ws base count first n f);
         }
 
     module _ (i left previous body : ℕ) (met : Bool) (j : Judging i left previous body met) where
-      pub judge_large : count ≤ i → 4095 < front + body → record { formed = false; met = false } ≡ judged (accepted whole) (ask && matched)
+      pub judge_large : count ≤ i → 4095 < front + body → None ≡ judged (accepted whole) (ask && matched)
       judge_large h k = refused (j.counts ∙ walk_large w lists (drop base ws) count i left previous (front + body) h k) refl
 
-      pub judge_ends : count ≤ i → front + body ≤ 4095 → record { formed = true; met = met } ≡ judged (accepted whole) (ask && matched)
+      pub judge_ends : count ≤ i → front + body ≤ 4095 → Some met ≡ judged (accepted whole) (ask && matched)
       judge_ends h k =
           let a : true ≡ accepted whole = sym (ap accepted (j.counts ∙ walk_done w lists (drop base ws) count i left previous (front + body) h k)) ∙ by_count whole in
           let m : met ≡ (ask && matched) = sym (j.meets ∙ ap (λ (b : Bool). met && b) (rest_ends values octets p ws base count first i h) ∙ and-true met) in
           ap₂ judged a m
 
       -- a turn, by what the component tells
-      module _ (h : i < count) (s : Step) (is : s ≡ step_of w lists left previous p met (piece_at ws (base + 4 * i))) where
+      module _ (h : i < count) where
         abbrev piece : Piece
         piece = piece_at ws (base + 4 * i)
 
-        weighs : s.octets ≡ weight_of w lists left previous piece
+        pub judge_stops : None ≡ step_of w lists left previous p met piece → None ≡ judged (accepted whole) (ask && matched)
         unfolding step_of
-        weighs = ap (λ (x : Step). x.octets) is
+        judge_stops e =
+            let z = step_none (weight_of w lists left previous piece) _ _ _ e in
+            refused (j.counts ∙ walk_bad w lists (drop base ws) count i left previous (front + body) h (piece_rest base ws (4 * i)) z) refl
 
-        names : s.operators ≡ operators_in piece
-        unfolding step_of
-        names = ap (λ (x : Step). x.operators) is
+        module _ {s : Step} (told : Some s ≡ step_of w lists left previous p met piece) where
+          tells : (weight_of w lists left previous piece ≡ 0 → ⊥)
+              × (s ≡ record { octets = weight_of w lists left previous piece; tag = type_of piece; operators = operators_in piece; met = met && piece_matches values octets first p piece })
+          unfolding step_of
+          tells = step_some _ _ _ _ told
 
-        pub judge_stops : s.octets ≡ 0 → record { formed = false; met = false } ≡ judged (accepted whole) (ask && matched)
-        judge_stops z = refused (j.counts ∙ walk_bad w lists (drop base ws) count i left previous (front + body) h (piece_rest base ws (4 * i)) (sym weighs ∙ z)) refl
+          weighs : s.octets ≡ weight_of w lists left previous piece
+          weighs = ap (λ (x : Step). x.octets) tells.1
 
-        module _ (some : s.octets ≡ 0 → ⊥) where
+          names : s.operators ≡ operators_in piece
+          names = ap (λ (x : Step). x.operators) tells.1
+
           weight : 0 < weight_of w lists left previous piece
-          weight = omega (arith, weighs)
+          weight = omega (arith, tells.0)
 
           pub few : s.operators ≤ left
           few = omega (arith, names, weight_few w lists left previous piece weight)
@@ -125,18 +131,16 @@ module _ (w : Reading) (ws : List ℕ) (base : ℕ) (values octets : List ℕ) (
           most_octets = omega (arith, names, weighs, weight_most w lists left previous piece weight)
 
           met_now : s.met ≡ (met && piece_matches values octets first p piece)
-          unfolding step_of
-          met_now = ap (λ (x : Step). x.met) is ∙ ap (λ (b : Bool). pick b false (met && piece_matches values octets first p piece)) (ne_eqb _ 0 (λ z. some (weighs ∙ z)))
+          met_now = ap (λ (x : Step). x.met) tells.1
 
           sum : front + body + s.octets ≡ front + (body + s.octets)
           sum = omega arith
 
           next_counts : counted whole ≡ rest_from w lists (drop base ws) count (i + 1) (left - s.operators) s.tag (front + (body + s.octets))
-          unfolding step_of
           next_counts =
               j.counts
               ∙ walk_more w lists (drop base ws) count i left previous (front + body) h (piece_rest base ws (4 * i)) weight
-              ∙ ap (λ (x : Step). rest_from w lists (drop base ws) count (i + 1) (left - x.operators) x.tag (front + body + x.octets)) (sym is)
+              ∙ ap (λ (x : Step). rest_from w lists (drop base ws) count (i + 1) (left - x.operators) x.tag (front + body + x.octets)) (sym tells.1)
               ∙ ap (rest_from w lists (drop base ws) count (i + 1) (left - s.operators) s.tag) sum
 
           next_meets : (ask && matched) ≡ (s.met && rest values octets p ws base count first (i + 1))

@@ -7,9 +7,8 @@ use native.Mathlib.Omega.{arith}
 use lib.Dec.{eqb, leb, ltb}
 use lib.ListN.{get_or, drop}
 use lib.Seq.{get_or-drop}
+use Rattle.std.specs.Prelude.{None, Some, Option}
 use Rattle.ground.specs.Picks.{pick}
-use Rattle.rules.specs.declared.Distinguisher.{Distinguisher}
-use Rattle.rules.specs.declared.Distinguisher.TheVariants.{Absent, Is}
 use Rattle.stored.specs.declared.Piece.{Piece}
 use Rattle.stored.specs.Pieces.{is_record, piece_of, piece_at}
 use Rattle.stored.specs.Distinguishers.{presence_word, bits_word, distinguisher_at, is_distinguisher}
@@ -61,13 +60,13 @@ module _ (at : ℕ) (ws : List ℕ) where
 
   pub distinguisher_rest : distinguisher_at rest 0 ≡ distinguisher_at ws at
   unfolding distinguisher_at
-  distinguisher_rest = ap₂ (λ (x y : ℕ). pick (eqb x 0) Absent (Is y)) (front 55) (front 56)
+  distinguisher_rest = ap₂ (λ (x y : ℕ). pick (eqb x 0) None (Some y)) (front 55) (front 56)
 
   tested_rest : is_distinguisher rest 0 ≡ is_distinguisher ws at
   unfolding is_distinguisher
   tested_rest =
       ap₂ (λ (x y : ℕ). eqb x (presence_word (distinguisher_at rest 0)) && eqb y (bits_word (distinguisher_at rest 0))) (front 55) (front 56)
-      ∙ ap (λ (d : Distinguisher). eqb (get_or ws (at + 55) 0) (presence_word d) && eqb (get_or ws (at + 56) 0) (bits_word d)) distinguisher_rest
+      ∙ ap (λ (d : Option ℕ). eqb (get_or ws (at + 55) 0) (presence_word d) && eqb (get_or ws (at + 56) 0) (bits_word d)) distinguisher_rest
 
   pub stored_rest : stored_at rest 0 ≡ stored_at ws at
   stored_rest =
@@ -75,7 +74,7 @@ module _ (at : ℕ) (ws : List ℕ) where
       ap (λ (k : ℕ). stored_rule (pieces_from k rest 0) (head_at rest 0)) count_rest
       ∙ ap (λ (ps : List Piece). stored_rule ps (head_at rest 0)) (pieces n 0 ∙ ap (pieces_from n ws) base)
       ∙ ap₂ (λ (f g : ℕ). stored_rule (pieces_from n ws at) (head f g (distinguisher_at rest 0))) family_rest first_rest
-      ∙ ap (λ (d : Distinguisher). stored_rule (pieces_from n ws at) (head (family_at ws at) (first_at ws at) d)) distinguisher_rest
+      ∙ ap (λ (d : Option ℕ). stored_rule (pieces_from n ws at) (head (family_at ws at) (first_at ws at) d)) distinguisher_rest
 
   pub framed_rest : is_framed rest 0 ≡ is_framed ws at
   unfolding is_framed

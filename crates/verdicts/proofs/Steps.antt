@@ -1,9 +1,10 @@
 -- What one component tells, by the tests of the code; and a prefix, or what is no list, as a component.
-use Prim.Native.Nat.{ℕ}
-use mathlib.Core.Path.{◌≡◌, sym, ap, ◌∙◌}
+use Prim.Native.Nat.{ℕ, zero, suc}
+use mathlib.Core.Path.{◌≡◌, refl, sym, ap, ◌∙◌}
 use mathlib.Core.Bool.{Bool, true, false, ◌&&◌}
 use native.Mathlib.Omega.{arith}
 use borrow.Author.Tests.{ne_eqb}
+use Rattle.std.specs.declared.option.Option.TheVariants.{Some, None}
 use Rattle.choices.specs.declared.Reading.{Reading}
 use Rattle.choices.specs.declared.Reading.TheVariants.{Plain}
 use Rattle.rules.specs.declared.NetworkPrefix.{NetworkPrefix}
@@ -17,22 +18,32 @@ use Rattle.measuring.specs.Bodies.{Lent}
 use Rattle.measuring.specs.Weights.{weight_of}
 use Rattle.measuring.proofs.Laws.{Listed, list_shows, not_plain}
 use Rattle.measuring.proofs.Weights.{weight_taken, weight_prefix, weight_none}
+use Rattle.verdicts.specs.declared.Step.{Step}
 use Rattle.verdicts.specs.Steps.{step_in, step_of, prefix_step, other_step}
+
+-- what it tells, by its octets
+pub step_some : (n type count : ℕ) (met : Bool) {s : Step} → Some s ≡ step_in n type count met → (n ≡ 0 → ⊥) × (s ≡ record { octets = n; tag = type; operators = count; met = met })
+step_some zero type count met e = cc
+step_some (suc n) type count met e = (λ z. omega arith, cc (rw (ne_eqb (suc n) 0 (λ z. omega arith)) at e))
+
+pub step_none : (n type count : ℕ) (met : Bool) → None ≡ step_in n type count met → n ≡ 0
+step_none zero type count met e = refl
+step_none (suc n) type count met e = cc (rw (ne_eqb (suc n) 0 (λ z. omega arith)) at e)
 
 -- by whether there are octets, and whether it is asked if the component is met
 module _ (n type count : ℕ) (met b : Bool) {k : ℕ} (is : k ≡ n) where
-  pub not_taken : k ≡ 0 → record { octets = 0; tag = type; operators = count; met = false } ≡ step_in n type count (met && b)
+  pub not_taken : k ≡ 0 → None ≡ step_in n type count (met && b)
   not_taken z = let e : n ≡ 0 = sym is ∙ z in rw e
 
   module _ (some : k ≡ 0 → ⊥) where
-    taken : {c : Bool} → c ≡ (met && b) → record { octets = k; tag = type; operators = count; met = c } ≡ step_in n type count (met && b)
+    taken : {c : Bool} → c ≡ (met && b) → Some (record { octets = k; tag = type; operators = count; met = c }) ≡ step_in n type count (met && b)
     taken e = rw (← is, ne_eqb k 0 some, e)
 
-    pub asked : met ≡ true → {c : Bool} → c ≡ b → record { octets = k; tag = type; operators = count; met = c } ≡ step_in n type count (met && b)
+    pub asked : met ≡ true → {c : Bool} → c ≡ b → Some (record { octets = k; tag = type; operators = count; met = c }) ≡ step_in n type count (met && b)
     asked t e = taken (e ∙ sym (ap (λ x. x && b) t))
 
-    pub not_asked : met ≡ false → record { octets = k; tag = type; operators = count; met = false } ≡ step_in n type count (met && b)
-    not_asked f = taken (sym (ap (λ x. x && b) f))
+    pub not_asked : met ≡ false → Some (record { octets = k; tag = type; operators = count; met = met }) ≡ step_in n type count (met && b)
+    not_asked f = taken (f ∙ sym (ap (λ x. x && b) f))
 
 -- a list of some octets in a standard writing lies within the lent lists
 pub listed : (w : Reading) (l : Lent) (left previous type start count : ℕ) {k : ℕ} → (w ≡ Plain → ⊥) → k ≡ weight_of w l left previous (Operators type start count) → (k ≡ 0 → ⊥) → Listed type l start count

@@ -2,11 +2,12 @@
 -- the code's test of one goes.
 use Prim.Native.Nat.{ℕ, ◌-◌, ◌%◌, ◌≤◌, ◌<◌}
 use mathlib.Core.Path.{◌≡◌, refl, sym, ap, ◌∙◌, subst}
-use mathlib.Core.Bool.{true, false, not, false≢true}
+use mathlib.Core.Bool.{Bool, true, false, not, false≢true}
 use mathlib.Core.List.{List, [], ◌∷◌}
 use mathlib.Core.Logic.{⊎_elim}
 use native.Mathlib.Omega.{arith}
 use lib.ListN.{length, drop, length-drop}
+use Rattle.std.specs.declared.option.Option.TheVariants.{Some, None}
 use Rattle.ground.specs.Answers.{Refused, Answer, accepts, refuses, declines}
 use Rattle.ground.proofs.Cases.{both, lt_or_le}
 use Rattle.choices.specs.declared.Reading.{Reading}
@@ -22,7 +23,7 @@ use Rattle.measuring.proofs.Laws.{Standard, standard_shows, list_shows, taken_no
 use Rattle.writing.specs.Writings.{on_accepted, body_from, body_in, written_in, refuses_rule, accepted as has_body}
 use Rattle.writing.proofs.Laws.{few_words, no_frame, shown, body_in_lem, body_no_family, body_named, in_any_room as any_room}
 use Rattle.ranking.specs.Ranks.{Inside, AllInside, Rankable}
-use Rattle.verdicts.specs.Verdicts.{accepted, well_formed}
+use Rattle.verdicts.specs.Verdicts.{accepted, well_formed, judged}
 use Rattle.verdicts.proofs.RestOfWords.{family_rest, stored_rest, rule_rest}
 
 -- ---- in the document's words
@@ -72,6 +73,16 @@ rankable words values octets at e =
       rule = sym (rule_rest at words) ∙ r.rule;
       inside = subst (λ (s : StoredRule). AllInside (length values) (length octets) s.head.first s.pieces) (stored_rest at words) r.inside;
     }
+
+-- ---- what is told of a rule
+
+pub judged_some : (formed met : Bool) {m : Bool} → Some m ≡ judged formed met → (formed ≡ true) × (m ≡ met)
+judged_some true met e = (refl, cc)
+judged_some false met e = cc
+
+pub judged_none : (formed met : Bool) → None ≡ judged formed met → formed ≡ false
+judged_none true met e = cc
+judged_none false met e = refl
 
 -- ---- the ways of the test
 

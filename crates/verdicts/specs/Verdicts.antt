@@ -1,21 +1,16 @@
 -- Which stored rules are well-formed, and what matching and ranking answer where they are called by themselves: each refuses as the chooser
 -- does for that rule and packet. Document 01, "What comes back", the order of refusals in choosing.
 use Rattle.std.specs.Prelude.{ℕ, List, [], ◌∷◌, Bool, true, false, not, ◌&&◌, drop, eqb}
+use Rattle.std.specs.declared.option.Option.{Option}
+use Rattle.std.specs.declared.option.Option.TheVariants.{Some, None}
 use Rattle.ground.specs.Answers.{Answer, accepts, refuses, declines}
 use Rattle.ground.specs.Picks.{pick}
-use Rattle.refusals.specs.Refusals.{refusal}
 use Rattle.stored.specs.Distinguishers.{same_distinguisher}
 use Rattle.stored.specs.Stored.{family_at, stored_at}
 use Rattle.packets.specs.Packets.{Packet, packet_ok}
 use Rattle.matching.specs.Rules.{rule_matches}
-use Rattle.ranking.specs.declared.Order.{Order}
-use Rattle.ranking.specs.Ranks.{rank_of}
+use Rattle.ranking.specs.Ranks.{Ordering, rank_of}
 use Rattle.writing.specs.Writings.{body_in}
-use Rattle.verdicts.specs.declared.Judged.{Judged}
-use Rattle.verdicts.specs.declared.Matched.{Matched}
-use Rattle.verdicts.specs.declared.Matched.TheVariants.{Is as Matches, Refused as NotMatched}
-use Rattle.verdicts.specs.declared.Ranked.{Ranked}
-use Rattle.verdicts.specs.declared.Ranked.TheVariants.{Is as Ranks, Refused as NotRanked}
 
 abbrev pub accepted {ℓ} : {A : Type ℓ} → Answer A → Bool
 accepted (accepts x) = true
@@ -30,11 +25,11 @@ own_body words values octets at = body_in (family_at words at) (drop at words) v
 unfoldable pub well_formed : List ℕ → List ℕ → List ℕ → ℕ → Bool
 well_formed words values octets at = accepted (own_body words values octets at)
 
--- what is told of the rule from a word on: whether it is well-formed, and whether the packet satisfies it, where it is well-formed and that is asked
-abbrev pub judged : Bool → Bool → Judged
-judged formed met = record { formed = formed; met = formed && met }
+-- what is told of the rule from a word on, where it is well-formed: whether the packet satisfies it, where that is asked
+abbrev pub judged : Bool → Bool → Option Bool
+judged formed met = pick formed (Some met) None
 
-abbrev pub judgement : List ℕ → List ℕ → List ℕ → Packet → Bool → ℕ → Judged
+abbrev pub judgement : List ℕ → List ℕ → List ℕ → Packet → Bool → ℕ → Option Bool
 judgement words values octets p ask at = judged (well_formed words values octets at) (ask && rule_matches values octets p (stored_at words at))
 
 -- whether a packet satisfies the rule at the front of the words: "13, 10 .., 14 (a rule's family is not the packet's)", at place 0
@@ -47,19 +42,10 @@ match_verdict words values octets p =
 
 -- what the rule at the front of the first words is to the one at the front of the second: 10 of either; of two families, 14 at place 1, the
 -- second rule's; of two distinguishers, 20 at place 1
-unfoldable pub rank_verdict : List ℕ → List ℕ → List ℕ → List ℕ → List ℕ → List ℕ → Answer Order
+unfoldable pub rank_verdict : List ℕ → List ℕ → List ℕ → List ℕ → List ℕ → List ℕ → Answer Ordering
 rank_verdict words values octets words2 values2 octets2 =
     pick (not (well_formed words values octets 0)) (refuses 10 [])
     (pick (not (well_formed words2 values2 octets2 0)) (refuses 10 [])
     (pick (not (eqb (stored_at words 0).head.family (stored_at words2 0).head.family)) (refuses 14 (1 ∷ []))
     (pick (not (same_distinguisher (stored_at words2 0).head.distinguisher (stored_at words 0).head.distinguisher)) (refuses 20 (1 ∷ []))
     (accepts (rank_of values octets (stored_at words 0) values2 octets2 (stored_at words2 0))))))
-
--- the answers as they are told
-abbrev pub told_matched : Matched → Answer Bool
-told_matched (Matches b) = accepts b
-told_matched (NotMatched f) = refusal f
-
-abbrev pub told_ranked : Ranked → Answer Order
-told_ranked (Ranks o) = accepts o
-told_ranked (NotRanked f) = refusal f

@@ -9,42 +9,24 @@ ghost use Rattle.stored.specs.Pieces.{piece_at};
 ghost use Rattle.stored.specs.Stored.{stored_at};
 ghost use Rattle.packets.specs.Packets.{packet_ok, packet_at};
 ghost use Rattle.matching.specs.Rules.{rule_matches};
-ghost use Rattle.measuring.specs.Bodies.{lent};
+ghost use Rattle.measuring.specs.Bodies.{lent_of};
 ghost use Rattle.measuring.specs.Weights.{weight_of, standard_weight};
 ghost use Rattle.writing.specs.Writings.{body_from};
-ghost use Rattle.verdicts.specs.Steps.{step_in, step_of, prefix_step, other_step};
-ghost use Rattle.verdicts.specs.Verdicts.{accepted, well_formed, judged, judgement, match_verdict, rank_verdict, told_matched, told_ranked};
+ghost use Rattle.verdicts.specs.Steps.{step_of, prefix_step, other_step};
+ghost use Rattle.verdicts.specs.Verdicts.{accepted, well_formed, judged, judgement, match_verdict, rank_verdict};
+ghost use Rattle.refusals.specs.Refusals.{answered};
 
-use choices::{Reading, Standard};
-use ranking::Order;
-use refusals::{Fault, FlowSpecError, OuterError, Place};
+use choices::Reading;
+use measuring::Lent;
+use operators::OperatorList;
+use ranking::LentRule;
+use refusals::{Fault, FlowSpecError, OuterError};
 use rules::NetworkPrefix;
-use stored::Piece;
-use wide::Wide;
+use std::cmp::Ordering;
+use stored::{Piece, View};
 
-// Whether a packet satisfies a rule, or why that was not asked.
-#[derive(Clone, Copy)]
-pub enum Matched {
-    Is(bool),
-    Refused(Fault),
-}
-
-// What one rule is to another, or why that was not asked.
-#[derive(Clone, Copy)]
-pub enum Ranked {
-    Is(Order),
-    Refused(Fault),
-}
-
-// Whether a rule is well-formed, and whether the packet satisfies it where that is so and was asked.
-#[derive(Clone, Copy)]
-pub struct Judged {
-    pub formed: bool,
-    pub met: bool,
-}
-
-// What a component tells: its octets, 0 where the writing does not take it; its type, and how many operators it names; and whether it is taken and
-// the packet satisfies it, as it does all before it.
+// What a component tells, where the writing takes it: its octets; its type, and how many operators it names; and whether the packet satisfies it, as
+// it does all before it.
 #[derive(Clone, Copy)]
 pub struct Step {
     pub octets: usize,
@@ -53,30 +35,12 @@ pub struct Step {
     pub met: bool,
 }
 
-fn no_step() -> Step
-    ensures { result ≡ step_in 0 0 0 false }
-{
-    Step {
-        octets: 0,
-        tag: 0,
-        operators: 0,
-        met: false,
-    }
-}
-
 // A list of many operators. It stands by itself, so that the compiler leaves it out of the walk and keeps that short.
-fn many_weight(
-    tag: u8,
-    values: &[u64],
-    octets: &[u8],
-    first: usize,
-    start: usize,
-    count: usize,
-) -> usize
+fn many_weight(tag: u8, lent: Lent, start: usize, count: usize) -> Option<usize>
     requires { count ≤ 2047 }
-    ensures { result ≡ standard_weight tag (lent values.now octets.now first) start count }
+    ensures { result ≡ standard_weight tag (lent_of lent.entry) start count }
 {
-    measuring::standard_list(tag, values, octets, first, start, count)
+    lent.standard_list(tag, start, count)
 }
 
 // How many octets a list adds to a body in a standard writing, 0 where it is not taken.
@@ -87,24 +51,22 @@ fn list_weight(
     tag: u8,
     start: usize,
     count: usize,
-    first: usize,
-    values: &[u64],
-    octets: &[u8],
+    lent: Lent,
 ) -> usize
     requires standard { writing ≡ Reading.Plain → ⊥ }
     requires left { left ≤ 2047 }
-    ensures { result ≡ weight_of writing (lent values.now octets.now first) left previous (Piece.Operators tag start count) }
+    ensures { result ≡ weight_of writing (lent_of lent.entry) left previous (Piece.Operators tag start count) }
 {
     if !measuring::may_follow(writing, left, previous, tag, count) {
         return 0;
     }
     if count == 1 {
-        return measuring::lone_list(tag, values, octets, first, start);
+        return lent.lone_list(tag, start).unwrap_or(0);
     }
     if count == 2 {
-        return measuring::pair_list(tag, values, octets, first, start);
+        return lent.pair_list(tag, start).unwrap_or(0);
     }
-    many_weight(tag, values, octets, first, start, count)
+    many_weight(tag, lent, start, count).unwrap_or(0)
 }
 
 fn list_step(
@@ -114,42 +76,35 @@ fn list_step(
     tag: u8,
     start: usize,
     count: usize,
-    first: usize,
-    values: &[u64],
-    octets: &[u8],
+    lent: Lent,
     packet: &[u64],
     met: bool,
-) -> Step
+) -> Option<Step>
     requires standard { writing ≡ Reading.Plain → ⊥ }
     requires left { left ≤ 2047 }
     requires packet { met ≡ true → packet_ok (packet_at packet.now) ≡ true }
-    ensures { result ≡ step_of writing (lent values.now octets.now first) left previous (packet_at packet.now) met (Piece.Operators tag start count) }
+    ensures { result ≡ step_of writing (lent_of lent.entry) left previous (packet_at packet.now) met (Piece.Operators tag start count) }
 {
-    let n = list_weight(
-        writing, left, previous, tag, start, count, first, values, octets,
-    );
+    let n = list_weight(writing, left, previous, tag, start, count, lent);
     if n == 0 {
-        return Step {
-            octets: 0,
-            tag: tag,
-            operators: count,
-            met: false,
-        };
+        return None;
     }
-    if met {
-        return Step {
-            octets: n,
-            tag: tag,
-            operators: count,
-            met: matching::some_matches(tag, values, octets, first + start, count, packet),
-        };
-    }
-    Step {
+    let Lent {
+        values,
+        octets,
+        first,
+    } = lent;
+    Some(Step {
         octets: n,
-        tag: tag,
+        tag,
         operators: count,
-        met: false,
-    }
+        met: met
+            && matching::some_matches(
+                tag,
+                OperatorList::new(values, octets, first + start, count),
+                packet,
+            ),
+    })
 }
 
 fn ipv4_step(
@@ -160,33 +115,20 @@ fn ipv4_step(
     address: u32,
     packet: &[u64],
     met: bool,
-) -> Step
+) -> Option<Step>
     requires { met ≡ true → packet_ok (packet_at packet.now) ≡ true }
     ensures { result ≡ prefix_step writing previous (packet_at packet.now) met tag (NetworkPrefix.Ipv4 length address) }
 {
     let n = measuring::weigh_ipv4(writing, previous, tag, length, address);
     if n == 0 {
-        return Step {
-            octets: 0,
-            tag: tag,
-            operators: 0,
-            met: false,
-        };
+        return None;
     }
-    if met {
-        return Step {
-            octets: n,
-            tag: tag,
-            operators: 0,
-            met: matching::ipv4_matches(length, address, packets::address_of(packet, tag)),
-        };
-    }
-    Step {
+    Some(Step {
         octets: n,
-        tag: tag,
+        tag,
         operators: 0,
-        met: false,
-    }
+        met: met && matching::ipv4_matches(length, address, packets::address_of(packet, tag)),
+    })
 }
 
 fn ipv6_step(
@@ -199,45 +141,36 @@ fn ipv6_step(
     low: u64,
     packet: &[u64],
     met: bool,
-) -> Step
+) -> Option<Step>
     requires { met ≡ true → packet_ok (packet_at packet.now) ≡ true }
     ensures { result ≡ prefix_step writing previous (packet_at packet.now) met tag (NetworkPrefix.Ipv6Offset length offset high low) }
 {
     let n = measuring::weigh_ipv6(writing, previous, tag, length, offset, high, low);
     if n == 0 {
-        return Step {
-            octets: 0,
-            tag: tag,
-            operators: 0,
-            met: false,
-        };
+        return None;
     }
-    if met {
-        return Step {
-            octets: n,
-            tag: tag,
-            operators: 0,
-            met: matching::ipv6_matches(
+    Some(Step {
+        octets: n,
+        tag,
+        operators: 0,
+        met: met
+            && matching::ipv6_matches(
                 offset,
                 length,
-                Wide {
-                    high: high,
-                    low: low,
-                },
+                wide::joined(high, low),
                 packets::address_of(packet, tag),
             ),
-        };
-    }
-    Step {
-        octets: n,
-        tag: tag,
-        operators: 0,
-        met: false,
-    }
+    })
 }
 
 // A prefix in a form that is not common, or no component at all.
-fn other_step(writing: Reading, previous: u8, piece: Piece, packet: &[u64], met: bool) -> Step
+fn other_step(
+    writing: Reading,
+    previous: u8,
+    piece: Piece,
+    packet: &[u64],
+    met: bool,
+) -> Option<Step>
     requires { met ≡ true → packet_ok (packet_at packet.now) ≡ true }
     ensures { result ≡ other_step writing previous (packet_at packet.now) met piece }
 {
@@ -245,66 +178,56 @@ fn other_step(writing: Reading, previous: u8, piece: Piece, packet: &[u64], met:
         Piece::Prefix { tag, prefix } => {
             let n = measuring::weigh_prefix(writing, previous, tag, prefix);
             if n == 0 {
-                return Step {
-                    octets: 0,
-                    tag: tag,
-                    operators: 0,
-                    met: false,
-                };
+                return None;
             }
-            if met {
-                return Step {
-                    octets: n,
-                    tag: tag,
-                    operators: 0,
-                    met: matching::prefix_matches(prefix, packets::address_of(packet, tag)),
-                };
-            }
-            Step {
+            Some(Step {
                 octets: n,
-                tag: tag,
+                tag,
                 operators: 0,
-                met: false,
-            }
+                met: met && matching::prefix_matches(prefix, packets::address_of(packet, tag)),
+            })
         }
-        Piece::Operators { .. } => no_step(),
-        Piece::NoRecord => no_step(),
+        Piece::Operators { .. } | Piece::NoRecord => None,
     }
 }
 
 // The component at a word, with so many operators left and after a type.
+#[tactic(auto, using(crate::proofs::Steps::prefix_is, crate::proofs::Steps::other_is))]
 fn step_at(
     writing: Reading,
     words: &[u64],
     at: usize,
-    first: usize,
+    lent: Lent,
     left: usize,
     previous: u8,
-    values: &[u64],
-    octets: &[u8],
     packet: &[u64],
     met: bool,
-) -> Step
+) -> Option<Step>
     requires standard { writing ≡ Reading.Plain → ⊥ }
     requires place { (at + 4 ≤ length words.now) × (left ≤ 2047) }
     requires packet { met ≡ true → packet_ok (packet_at packet.now) ≡ true }
-    ensures { result ≡ step_of writing (lent values.now octets.now first) left previous (packet_at packet.now) met (piece_at words.now at) }
+    ensures { result ≡ step_of writing (lent_of lent.entry) left previous (packet_at packet.now) met (piece_at words.now at) }
 {
-    let v = stored::view_at(words, at);
-    if v.form == 1 {
-        return list_step(
-            writing, left, previous, v.tag, v.start, v.count, first, values, octets, packet, met,
-        );
+    match stored::view_at(words, at) {
+        View::List { tag, start, count } => list_step(
+            writing, left, previous, tag, start, count, lent, packet, met,
+        ),
+        View::Ipv4 {
+            tag,
+            length,
+            address,
+        } => ipv4_step(writing, previous, tag, length, address, packet, met),
+        View::Ipv6 {
+            tag,
+            length,
+            offset,
+            high,
+            low,
+        } => ipv6_step(
+            writing, previous, tag, length, offset, high, low, packet, met,
+        ),
+        View::Other => other_step(writing, previous, stored::piece_at(words, at), packet, met),
     }
-    if v.form == 2 {
-        return ipv4_step(writing, previous, v.tag, v.length, v.address, packet, met);
-    }
-    if v.form == 3 {
-        return ipv6_step(
-            writing, previous, v.tag, v.length, v.offset, v.high, v.low, packet, met,
-        );
-    }
-    other_step(writing, previous, stored::piece_at(words, at), packet, met)
 }
 
 // The walk, by a standard writing.
@@ -316,17 +239,14 @@ fn judge_in(
     octets: &[u8],
     packet: &[u64],
     ask: bool,
-) -> Judged
+) -> Option<bool>
     requires standard { writing ≡ Reading.Plain → ⊥ }
     requires long { base + 64 ≤ length words.now }
     requires packet { ask ≡ true → packet_ok (packet_at packet.now) ≡ true }
     ensures { result ≡ judged (accepted (body_from writing (drop base words.now) values.now octets.now)) (ask && rule_matches values.now octets.now (packet_at packet.now) (stored_at words.now base)) }
 {
     if !stored::is_framed(words, base) {
-        return Judged {
-            formed: false,
-            met: false,
-        };
+        return None;
     }
     let count = stored::count_at(words, base);
     let first = stored::first_at(words, base);
@@ -334,49 +254,35 @@ fn judge_in(
     let mut left: usize = 2047;
     let mut previous: u8 = 0;
     let mut met = ask;
-    let mut i: usize = 0;
-    while i < count {
+    for i in 0..count {
         let s = step_at(
             writing,
             words,
             base + 4 * i,
-            first,
+            Lent {
+                values,
+                octets,
+                first,
+            },
             left,
             previous,
-            values,
-            octets,
             packet,
             met,
-        );
-        if s.octets == 0 {
-            return Judged {
-                formed: false,
-                met: false,
-            };
-        }
+        )?;
         body += s.octets;
         left -= s.operators;
         previous = s.tag;
         met = s.met;
-        i += 1;
     }
-    if 4087 < body {
-        if 4095 < body + measuring::front_size(writing, words, base) {
-            return Judged {
-                formed: false,
-                met: false,
-            };
-        }
+    if 4087 < body && 4095 < body + measuring::front_size(writing, words, base) {
+        return None;
     }
-    Judged {
-        formed: true,
-        met: met,
-    }
+    Some(met)
 }
 
-// Whether the 64 words from a word on are a rule that the standard writing in its own family takes, and, if it is asked, whether the packet
-// satisfies it. Words that are not there are none. A family that is no octet may be cut to one, since words with such a family are no rule.
-// No entry point.
+// Of the rule that the 64 words from a word on are: whether the packet satisfies it, false where that is not asked. None where they are no rule that the
+// standard writing in its own family takes; words that are not there are none. A family that is no octet may be cut to one, since words with such a
+// family are no rule. No entry point.
 pub fn judge(
     words: &[u64],
     at: usize,
@@ -384,68 +290,45 @@ pub fn judge(
     octets: &[u8],
     packet: &[u64],
     ask: bool,
-) -> Judged
+) -> Option<bool>
     requires { ask ≡ true → packet_ok (packet_at packet.now) ≡ true }
     ensures { result ≡ judgement words.now values.now octets.now (packet_at packet.now) ask at }
 {
-    let size = words.len();
-    if size < at {
-        return Judged {
-            formed: false,
-            met: false,
-        };
+    if words.len().saturating_sub(at) < 64 {
+        return None;
     }
-    if size - at < 64 {
-        return Judged {
-            formed: false,
-            met: false,
-        };
-    }
-    let standard = choices::reading_of((stored::family_at(words, at) % 256) as u8);
-    match standard {
-        Standard::Is(writing) => judge_in(writing, words, at, values, octets, packet, ask),
-        Standard::Refused(_) => Judged {
-            formed: false,
-            met: false,
-        },
-    }
+    let Ok(writing) = Reading::try_from((stored::family_at(words, at) % 256) as u8) else {
+        return None;
+    };
+    judge_in(writing, words, at, values, octets, packet, ask)
 }
 
 // Whether the 64 words from a word on are a rule that the standard writing in its own family takes.
 pub fn well_formed(words: &[u64], at: usize, values: &[u64], octets: &[u8]) -> bool
     ensures { result ≡ well_formed words.now values.now octets.now at }
 {
-    let j = judge(words, at, values, octets, words, false);
-    j.formed
+    judge(words, at, values, octets, words, false).is_some()
 }
 
 // Whether a packet satisfies the rule at the front of the words.
-pub fn matches(words: &[u64], values: &[u64], octets: &[u8], packet: &[u64]) -> Matched
-    ensures { told_matched result ≡ match_verdict words.now values.now octets.now (packet_at packet.now) }
+#[tactic(auto, unfolding(crate::specs::Verdicts::match_verdict))]
+pub fn matches(words: &[u64], values: &[u64], octets: &[u8], packet: &[u64]) -> Result<bool, Fault>
+    ensures { answered result ≡ match_verdict words.now values.now octets.now (packet_at packet.now) }
 {
     if !packets::check_words(packet) {
-        return Matched::Refused(Fault {
-            error: FlowSpecError::BadPacket,
-            place: Place::Nowhere,
-        });
+        return Err(FlowSpecError::BadPacket.into());
     }
-    let j = judge(words, 0, values, octets, packet, true);
-    if !j.formed {
-        return Matched::Refused(Fault {
-            error: FlowSpecError::BadRecord,
-            place: Place::Nowhere,
-        });
-    }
+    let Some(met) = judge(words, 0, values, octets, packet, true) else {
+        return Err(FlowSpecError::BadRecord.into());
+    };
     if stored::family_at(words, 0) != packets::family_of(packet) {
-        return Matched::Refused(Fault {
-            error: FlowSpecError::MixedFamily(0),
-            place: Place::Nowhere,
-        });
+        return Err(FlowSpecError::MixedFamily(0).into());
     }
-    Matched::Is(j.met)
+    Ok(met)
 }
 
 // What the rule at the front of the first words is to the rule at the front of the second, each with its operators.
+#[tactic(auto, unfolding(crate::specs::Verdicts::rank_verdict))]
 pub fn rank(
     words: &[u64],
     values: &[u64],
@@ -453,33 +336,34 @@ pub fn rank(
     words2: &[u64],
     values2: &[u64],
     octets2: &[u8],
-) -> Ranked
-    ensures { told_ranked result ≡ rank_verdict words.now values.now octets.now words2.now values2.now octets2.now }
+) -> Result<Ordering, Fault>
+    ensures { answered result ≡ rank_verdict words.now values.now octets.now words2.now values2.now octets2.now }
 {
     if !well_formed(words, 0, values, octets) {
-        return Ranked::Refused(Fault {
-            error: FlowSpecError::BadRecord,
-            place: Place::Nowhere,
-        });
+        return Err(FlowSpecError::BadRecord.into());
     }
     if !well_formed(words2, 0, values2, octets2) {
-        return Ranked::Refused(Fault {
-            error: FlowSpecError::BadRecord,
-            place: Place::Nowhere,
-        });
+        return Err(FlowSpecError::BadRecord.into());
     }
     if stored::family_at(words, 0) != stored::family_at(words2, 0) {
-        return Ranked::Refused(Fault {
-            error: FlowSpecError::MixedFamily(1),
-            place: Place::Nowhere,
-        });
+        return Err(FlowSpecError::MixedFamily(1).into());
     }
     if !stored::same_distinguisher(words2, 0, words, 0) {
-        return Ranked::Refused(Fault {
-            error: FlowSpecError::Outer(OuterError::MixedDistinguisher(1)),
-            place: Place::Nowhere,
-        });
+        return Err(FlowSpecError::Outer(OuterError::MixedDistinguisher(1)).into());
     }
-    let order = ranking::compare_rules(words, 0, values, octets, words2, 0, values2, octets2);
-    Ranked::Is(order)
+    let order = ranking::compare_rules(
+        LentRule {
+            words,
+            at: 0,
+            values,
+            octets,
+        },
+        LentRule {
+            words: words2,
+            at: 0,
+            values: values2,
+            octets: octets2,
+        },
+    );
+    Ok(order)
 }

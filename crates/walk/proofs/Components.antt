@@ -16,9 +16,9 @@ use Rattle.prefixes.specs.declared.PrefixAt.{PrefixAt}
 use Rattle.prefixes.specs.Prefixes.{prefix_at}
 use Rattle.prefixes.proofs.Laws.{prefix_next}
 use Rattle.lists.specs.declared.Tally.{Tally}
-use Rattle.lists.specs.Lists.{list_at, ops_at, recorded_ops}
+use Rattle.lists.specs.Lists.{tally, list_at, ops_at, recorded_ops}
 use Rattle.lists.proofs.Laws.{list_ends, recorded_counts}
-use Rattle.walk.specs.Walks.{prefix_found, list_found, typed_at, FoundAt, component_at, Sight, sight, seen}
+use Rattle.walk.specs.Walks.{prefix_found, list_found, typed_at, FoundAt, component_at, seen}
 use Rattle.walk.proofs.Ways.{found_missing, found_order, found_type, found_typed, typed_prefix, typed_list}
 
 pub last_most : (r : Reading) → last_type r ≤ 13
@@ -87,10 +87,10 @@ pub record Sighted (a : Answer FoundAt) (n m : ℕ) : Type 0 where
   pub count : length what.operators ≡ n
   pub next : what.next ≡ m
 
-pub sighted : (a : Answer FoundAt) {n m : ℕ} → accepts (sight n m) ≡ seen a → Sighted a n m
+pub sighted : (a : Answer FoundAt) {n m : ℕ} → accepts (tally n m) ≡ seen a → Sighted a n m
 sighted (accepts p) {n} {m} e =
-    let z : sight n m ≡ sight (length p.operators) p.next = cc in
-    record { what = p; is = refl; count = sym (ap (λ (x : Sight). x.operators) z); next = sym (ap (λ (x : Sight). x.next) z) }
+    let z : tally n m ≡ tally (length p.operators) p.next = cc in
+    record { what = p; is = refl; count = sym (ap (λ (x : Tally). x.count) z); next = sym (ap (λ (x : Tally). x.next.at) z) }
 sighted (declines f) e = never (sym e)
 
 pub unseen : (a : Answer FoundAt) {f : Refused} → declines f ≡ seen a → a ≡ declines f

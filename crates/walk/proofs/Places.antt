@@ -18,10 +18,10 @@ use Rattle.prefixes.specs.Prefixes.{extent_at, prefix_on}
 use Rattle.prefixes.proofs.Laws.{prefix_by}
 use Rattle.prefixes.proofs.Places.{behind, extent_breaks, extent_alike}
 use Rattle.lists.specs.declared.Tally.{Tally}
-use Rattle.lists.specs.Lists.{list_at, ops_at, recorded_ops}
+use Rattle.lists.specs.Lists.{tally, list_at, ops_at, recorded_ops}
 use Rattle.lists.proofs.Laws.{recorded_counts}
 use Rattle.lists.proofs.Places.{list_breaks, list_alike}
-use Rattle.walk.specs.Walks.{FoundAt, prefix_found, list_found, typed_at, component_at, Body, body, joined, turn, walk_from, walk_at, sight, seen}
+use Rattle.walk.specs.Walks.{FoundAt, prefix_found, list_found, typed_at, component_at, Body, body, joined, turn, walk_from, walk_at, seen}
 use Rattle.walk.proofs.Ways.{found_missing, found_order, found_type, found_typed, typed_prefix, typed_list, prefix_seen, list_seen}
 use Rattle.walk.proofs.Components.{Here, here, Sighted, sighted}
 
@@ -115,22 +115,22 @@ with_list t start os (declines g) e f = never e
 module _ (r : Reading) (s : List ℕ) (at previous start : ℕ) {p : FoundAt} (e : component_at r s at previous start ≡ accepts p)
     (u : List ℕ) (a : Alike p.next s u) where
   module _ (d : Here r s at previous start p) (o : get_or u at 0 ≡ get_or s at 0) where
-    seen_prefix : get_or s at 0 ≤ 2 → accepts (sight (length p.operators) p.next) ≡ seen (component_at r u at previous start)
+    seen_prefix : get_or s at 0 ≤ 2 → accepts (tally (length p.operators) p.next) ≡ seen (component_at r u at previous start)
     seen_prefix h =
         with_extent r s (get_or s at 0) (extent_at r s (at + 1))
         (sym (typed_prefix r (get_or s at 0) s (at + 1) start h ∙ ap (prefix_found (get_or s at 0)) (prefix_by r s (at + 1) refl)) ∙ d.typed)
         (λ x i n m.
         let b : Alike x.next.at s u = alike_less (omega arith) a in
-        ap₂ (λ (y z : ℕ). accepts (sight y z)) (sym n) (sym m)
+        ap₂ (λ (y z : ℕ). accepts (tally y z)) (sym n) (sym m)
         ∙ prefix_seen r u at previous start (omega (arith, a.long, d.within)) (omega (arith, d.rises)) (omega (arith, d.known)) (omega arith) (sym (extent_alike r s (at + 1) i u b)))
 
-    seen_list : 2 < get_or s at 0 → accepts (sight (length p.operators) p.next) ≡ seen (component_at r u at previous start)
+    seen_list : 2 < get_or s at 0 → accepts (tally (length p.operators) p.next) ≡ seen (component_at r u at previous start)
     seen_list h =
         with_list (get_or s at 0) start (recorded_ops r (get_or s at 0) (ops_at s (at + 1))) (list_at r (get_or s at 0) s (at + 1))
         (sym (typed_list r (get_or s at 0) s (at + 1) start h) ∙ d.typed)
         (λ l i n m.
         let b : Alike l.next.at s u = alike_less (omega arith) a in
-        ap₂ (λ (y z : ℕ). accepts (sight y z)) (sym n ∙ recorded_counts r (get_or s at 0) s (at + 1) i) (sym m)
+        ap₂ (λ (y z : ℕ). accepts (tally y z)) (sym n ∙ recorded_counts r (get_or s at 0) s (at + 1) i) (sym m)
         ∙ list_seen r u at previous start (omega (arith, a.long, d.within)) (omega (arith, d.rises)) (omega (arith, d.known)) (omega arith)
         (sym (ap (λ (x : ℕ). list_at r x u (at + 1)) o ∙ list_alike r (get_or s at 0) s (at + 1) i u b)))
 

@@ -13,7 +13,8 @@ use Rattle.choices.specs.declared.Reading.TheVariants.{Plain, Ipv4, Ipv6}
 use Rattle.choices.specs.Choices.{last_type}
 use Rattle.lists.specs.Runs.{alone_at}
 use Rattle.lists.proofs.Runs.{alone_done}
-use Rattle.walk.specs.Walks.{FoundAt, component_at, Body, body, joined, turn, walk_from, walk_at, sight, seen, counted}
+use Rattle.lists.specs.Lists.{tally}
+use Rattle.walk.specs.Walks.{FoundAt, component_at, Body, body, joined, turn, walk_from, walk_at, seen, counted}
 use Rattle.walk.specs.Turns.{rest, counted_on, Walking, Prefixed}
 use Rattle.prefixes.specs.Prefixes.{octets_of, named_at}
 use Rattle.prefixes.proofs.Laws.{taken_extent}
@@ -76,7 +77,7 @@ module _ {r : Reading} {s : List ℕ} {stop at previous operators : ℕ} (w : Wa
     walking_refused e =
         sym (w.same ∙ ap (counted_on operators) (rest_refused r s stop at previous operators w.components few_of h (unseen (component_at r s at previous operators) e)))
 
-    module _ {n m : ℕ} (e : accepts (sight n m) ≡ seen (component_at r s at previous operators)) where
+    module _ {n m : ℕ} (e : accepts (tally n m) ≡ seen (component_at r s at previous operators)) where
       pub found : Sighted (component_at r s at previous operators) n m
       found = sighted (component_at r s at previous operators) e
 

@@ -11,9 +11,9 @@ use Rattle.prefixes.specs.declared.Extent.{Extent}
 use Rattle.prefixes.specs.Prefixes.{extent_at, prefix_on, prefix_at}
 use Rattle.prefixes.proofs.Laws.{prefix_by}
 use Rattle.lists.specs.declared.Tally.{Tally}
-use Rattle.lists.specs.Lists.{list_at, ops_at, recorded_ops}
+use Rattle.lists.specs.Lists.{tally, list_at, ops_at, recorded_ops}
 use Rattle.lists.proofs.Laws.{recorded_counts}
-use Rattle.walk.specs.Walks.{prefix_found, list_found, typed_at, component_at, Sight, sight, seen}
+use Rattle.walk.specs.Walks.{prefix_found, list_found, typed_at, component_at, seen}
 
 module _ (r : Reading) (s : List ℕ) (at previous start : ℕ) where
   pub found_missing : length s ≤ at → component_at r s at previous start ≡ refuses_at 1 [] (length s)
@@ -43,21 +43,17 @@ module _ (r : Reading) (t : ℕ) (s : List ℕ) (at start : ℕ) where
   unfolding typed_at
   typed_list h = simp (lt-leb _ _ h)
 
--- what is seen of a prefix and of a list
-abbrev pub extended : Answer Extent → Answer Sight
-extended (accepts e) = accepts (sight 0 e.next.at)
+-- what is seen of a prefix, and of a list what is measured
+abbrev pub extended : Answer Extent → Answer Tally
+extended (accepts e) = accepts (tally 0 e.next.at)
 extended (declines f) = declines f
 
 seen_prefix : (r : Reading) (s : List ℕ) (t : ℕ) (a : Answer Extent) → seen (prefix_found t (prefix_on r s a)) ≡ extended a
 seen_prefix r s t (accepts e) = refl
 seen_prefix r s t (declines f) = refl
 
-abbrev pub measured : Answer Tally → Answer Sight
-measured (accepts l) = accepts (sight l.count l.next.at)
-measured (declines f) = declines f
-
-seen_list : (r : Reading) (t : ℕ) (s : List ℕ) (at start : ℕ) (a : Answer Tally) → list_at r t s at ≡ a → seen (list_found t start (recorded_ops r t (ops_at s at)) a) ≡ measured a
-seen_list r t s at start (accepts l) e = ap (λ (n : ℕ). accepts (sight n l.next.at)) (recorded_counts r t s at e)
+seen_list : (r : Reading) (t : ℕ) (s : List ℕ) (at start : ℕ) (a : Answer Tally) → list_at r t s at ≡ a → seen (list_found t start (recorded_ops r t (ops_at s at)) a) ≡ a
+seen_list r t s at start (accepts l) e = ap (λ (n : ℕ). accepts (tally n l.next.at)) (recorded_counts r t s at e)
 seen_list r t s at start (declines f) e = refl
 
 -- a component, seen
@@ -67,8 +63,8 @@ module _ (r : Reading) (s : List ℕ) (at previous start : ℕ) (h : at < length
       sym (ap seen (found_typed r s at previous start h k l ∙ typed_prefix r (get_or s at 0) s (at + 1) start m ∙ ap (prefix_found (get_or s at 0)) (prefix_by r s (at + 1) (sym e)))
       ∙ seen_prefix r s (get_or s at 0) a)
 
-  pub list_seen : 2 < get_or s at 0 → {a : Answer Tally} → a ≡ list_at r (get_or s at 0) s (at + 1) → measured a ≡ seen (component_at r s at previous start)
+  pub list_seen : 2 < get_or s at 0 → {a : Answer Tally} → a ≡ list_at r (get_or s at 0) s (at + 1) → a ≡ seen (component_at r s at previous start)
   list_seen m e =
-      ap measured e
+      e
       ∙ sym (ap seen (found_typed r s at previous start h k l ∙ typed_list r (get_or s at 0) s (at + 1) start m)
       ∙ seen_list r (get_or s at 0) s (at + 1) start (list_at r (get_or s at 0) s (at + 1)) refl)

@@ -3,7 +3,6 @@
 use Rattle.std.specs.Prelude.{ℕ, zero, suc, ◌+◌, List, [], ◌∷◌, ◌++◌, length, get_or, ltb, leb}
 use Rattle.ground.specs.Answers.{Answer, accepts, refuses_at, declines}
 use Rattle.ground.specs.Picks.{pick}
-use Rattle.refusals.specs.Refusals.{refusal}
 use Rattle.choices.specs.declared.Reading.{Reading}
 use Rattle.choices.specs.Choices.{last_type}
 use Rattle.operators.specs.Ops.{Op}
@@ -12,11 +11,7 @@ use Rattle.stored.specs.declared.Piece.TheVariants.{Prefix, Operators}
 use Rattle.prefixes.specs.declared.PrefixAt.{PrefixAt}
 use Rattle.prefixes.specs.Prefixes.{prefix_at}
 use Rattle.lists.specs.declared.Tally.{Tally}
-use Rattle.lists.specs.Lists.{list_at, ops_at, recorded_ops}
-use Rattle.walk.specs.declared.Found.{Found}
-use Rattle.walk.specs.declared.Found.TheVariants.{Component, Refused}
-use Rattle.walk.specs.declared.Walked.{Walked}
-use Rattle.walk.specs.declared.Walked.TheVariants.{Accepted, Refused as NotAccepted}
+use Rattle.lists.specs.Lists.{tally, list_at, ops_at, recorded_ops}
 
 -- what is found of a component: its piece, the operators that are recorded of it, and the place after it
 pub record FoundAt : Type 0 where
@@ -78,26 +73,11 @@ unfoldable pub walk_at : Reading → List ℕ → ℕ → Answer Body
 walk_at reading s stop = walk_from 14 reading s stop 0 0 0
 
 -- what the first walk sees of a component: how many operators it has, and the place after it
-pub record Sight : Type 0 where
-  pub operators : ℕ
-  pub next : ℕ
-
-abbrev pub sight : ℕ → ℕ → Sight
-sight n next = record { operators = n; next = next }
-
-abbrev pub told_found : Found → Answer Sight
-told_found (Component n next) = accepts (sight n next.at)
-told_found (Refused f) = refusal f
-
-abbrev pub seen : Answer FoundAt → Answer Sight
-seen (accepts p) = accepts (sight (length p.operators) p.next)
+abbrev pub seen : Answer FoundAt → Answer Tally
+seen (accepts p) = accepts (tally (length p.operators) p.next)
 seen (declines f) = declines f
 
 -- and of all of them: how many operators they have
-abbrev pub told_walk : Walked → Answer ℕ
-told_walk (Accepted n) = accepts n
-told_walk (NotAccepted f) = refusal f
-
 abbrev pub counted : Answer Body → Answer ℕ
 counted (accepts b) = accepts (length b.operators)
 counted (declines f) = declines f

@@ -10,6 +10,7 @@ use borrow.Author.Tests.{lt-ltb, le-ltb, ltb-false}
 use lib.Dec.{eqb, ltb}
 use lib.ListN.{length}
 use lib.Seq.{sets}
+use Rattle.std.specs.Prelude.{Option}
 use Rattle.ground.specs.Answers.{Refused, Answer, accepts, refuses, declines}
 use Rattle.ground.proofs.Answers.{never, same_accepted}
 use Rattle.ground.proofs.Cases.{by_test, lt_or_le}
@@ -17,7 +18,6 @@ use Rattle.octets.specs.Lengths.{length_octets}
 use Rattle.choices.specs.declared.Reading.{Reading}
 use Rattle.choices.specs.declared.Reading.TheVariants.{Ipv4, Ipv6}
 use Rattle.choices.specs.Choices.{standard_of}
-use Rattle.rules.specs.declared.Distinguisher.{Distinguisher}
 use Rattle.stored.specs.declared.Piece.{Piece}
 use Rattle.stored.specs.Stored.{Head, StoredRule, stored_rule, rule_words, is_rule, stored_at, rule_at}
 use Rattle.stored.proofs.Words.{at_outside, at_bad, at_good}
@@ -145,7 +145,7 @@ module _ (w : Reading) (ws values octets : List ℕ) (s : StoredRule) (e : rule_
 -- ---- in any room
 
 -- a body is refused by one of these or not at all
-own_body_lem : (w : Reading) (l : Lent) (d : Distinguisher) (ps : List Piece) → refuses_rule (body_of w l d ps) ≡ not (accepted (body_of w l d ps))
+own_body_lem : (w : Reading) (l : Lent) (d : Option ℕ) (ps : List Piece) → refuses_rule (body_of w l d ps) ≡ not (accepted (body_of w l d ps))
 unfolding body_of
 own_body_lem w l d ps =
     by_test (body_taken w l ps)

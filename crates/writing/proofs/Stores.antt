@@ -1,5 +1,5 @@
 -- What is stored of a prefix and of a piece.
-use Prim.Native.Nat.{ℕ, zero, suc, ◌+◌, ◌-◌, ◌*◌, ◌/◌, ◌^◌, ◌≤◌}
+use Prim.Native.Nat.{ℕ, suc, ◌+◌, ◌-◌, ◌*◌, ◌/◌, ◌^◌, ◌≤◌}
 use mathlib.Core.Path.{◌≡◌, refl, sym, ap, ap₂, ◌∙◌}
 use mathlib.Core.Bool.{true, false≢true}
 use mathlib.Core.List.{List, ◌∷◌, ◌++◌}
@@ -34,25 +34,12 @@ pub high_none : (l : List ℕ) (at k v : ℕ) → k ≡ 0 → l ≡ sets l at (s
 unfolding spelled
 high_none l at k v e = rw e
 
-pub high_one : (l : List ℕ) (at k n v : ℕ) {r : List ℕ} → n ≡ k → r ≡ sets l at (spelled n (v / 2 ^ (32 - 8 * n))) → r ≡ sets l at (spelled k (v / 2 ^ (32 - 8 * k)))
-high_one l at k n v e f = f ∙ ap (λ (j : ℕ). sets l at (spelled j (v / 2 ^ (32 - 8 * j)))) e
-
 pub high_three : (l : List ℕ) (at v : ℕ) {m r : List ℕ} → m ≡ sets l at (spelled 2 (v / 65536)) → r ≡ sets m (at + 2) (spelled 1 (v / 256)) → r ≡ sets l at (spelled 3 (v / 2 ^ (32 - 8 * 3)))
 high_three l at v {m} {r} e f =
     let p : spelled 3 (v / 256) ≡ spelled 2 (v / 65536) ++ spelled 1 (v / 256) = spelled_parts 2 1 (v / 256) ∙ ap (λ (x : ℕ). spelled 2 x ++ spelled 1 (v / 256)) (shr-shr v 8 8) in
     f ∙ ap₂ (λ (x : List ℕ) (n : ℕ). sets x (at + n) (spelled 1 (v / 256))) e (sym (length_spelled 2 (v / 65536)))
     ∙ sym (sets_append l at (spelled 2 (v / 65536)) (spelled 1 (v / 256)))
     ∙ ap (λ (x : List ℕ). sets l at x) (sym p)
-
-pub high_four : (l : List ℕ) (at v : ℕ) {r : List ℕ} → r ≡ sets l at (spelled 4 v) → r ≡ sets l at (spelled 4 (v / 2 ^ (32 - 8 * 4)))
-high_four l at v f = let e : v ≡ v / 1 = omega arith in f ∙ ap (λ (x : ℕ). sets l at (spelled 4 x)) e
-
-pub four : (k : ℕ) → k ≤ 4 → (k ≡ 0 → ⊥) → (k ≡ 1 → ⊥) → (k ≡ 2 → ⊥) → (k ≡ 3 → ⊥) → 4 ≡ k
-four zero h a b c d = absurd (a refl)
-four (suc zero) h a b c d = absurd (b refl)
-four (suc (suc zero)) h a b c d = absurd (c refl)
-four (suc (suc (suc zero))) h a b c d = absurd (d refl)
-four (suc (suc (suc (suc k)))) h a b c d = omega arith
 
 -- an IPv4 prefix that a writing takes
 taken_ipv4 : (w : Reading) (len a : ℕ) → prefix_taken w (V4 len a) ≡ true → len ≤ 32

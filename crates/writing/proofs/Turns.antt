@@ -1,6 +1,6 @@
 -- The turns of the walk that writes: with what is left of the words stored at p, the output is as it shall be.
 use Prim.Native.Nat.{ℕ, suc, ◌+◌, ◌-◌, ◌*◌, ◌≤◌, ◌<◌}
-use mathlib.Core.Path.{◌≡◌, refl, sym, ap, ◌∙◌}
+use mathlib.Core.Path.{◌≡◌, sym, ap, ◌∙◌}
 use mathlib.Core.Bool.{true}
 use mathlib.Core.List.{List, [], ◌∷◌, ◌++◌}
 use native.Mathlib.Omega.{arith}
@@ -30,17 +30,6 @@ pub record Stood (w : Reading) (l : Lent) (ws : List ℕ) (n at : ℕ) (out₀ o
 module _ (w : Reading) (l : Lent) (ws : List ℕ) (n at : ℕ) (out₀ : List ℕ) where
   pub whole : left_of w l ws n 0 ≡ body_octets w l (pieces_from n ws 0)
   whole = let e : n - 0 ≡ n = omega arith in rw e
-
-  pub stood_first : all_taken w l (pieces_from n ws 0) ≡ true → Stood w l ws n at out₀ out₀ at 0
-  stood_first b =
-      let e : n ≡ n - 0 = omega arith in
-      record {
-        within = omega arith;
-        long = refl;
-        taken = rw e at b;
-        place = refl;
-        stored = refl;
-      }
 
   module _ {out : List ℕ} {p i : ℕ} (h : Stood w l ws n at out₀ out p i) where
     pub stood_end : n ≤ i → out ≡ sets out₀ at (body_octets w l (pieces_from n ws 0))

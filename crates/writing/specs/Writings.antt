@@ -4,22 +4,14 @@
 use Rattle.std.specs.Prelude.{ℕ, Bool, true, false, ◌||◌, List, [], ◌∷◌, ◌++◌, length, eqb, ltb}
 use Rattle.ground.specs.Answers.{Answer, accepts, refuses, declines}
 use Rattle.ground.specs.Picks.{pick}
-use Rattle.refusals.specs.Refusals.{refusal}
 use Rattle.octets.specs.Lengths.{length_octets}
 use Rattle.choices.specs.declared.Reading.{Reading}
 use Rattle.choices.specs.Choices.{standard_of}
 use Rattle.stored.specs.Stored.{StoredRule, rule_at}
 use Rattle.measuring.specs.Bodies.{lent}
 use Rattle.measuring.specs.Grounds.{body_of}
-use Rattle.writing.specs.declared.Written.{Written}
-use Rattle.writing.specs.declared.Written.TheVariants.{Octets, Refused}
 -- how many octets an answer has, as it is told
 pub use Rattle.measuring.specs.Grounds.{counted}
-
--- how many octets were written, as it is told
-abbrev pub told_written : Written → Answer ℕ
-told_written (Octets n) = accepts n
-told_written (Refused f) = refusal f
 
 -- the octets that an answer leaves in the output: "A refusal changes no lent octet"
 abbrev pub octets_in : Answer (List ℕ) → List ℕ

@@ -8,6 +8,7 @@
 ghost use Rattle.std.specs.Prelude.{◌≡◌, true, ◌∷◌, ◌+◌, ◌-◌, ◌*◌, ◌/◌, ◌^◌, ◌≤◌, length};
 ghost use Rattle.std.proofs.lemmas.List.Edits.{sets};
 ghost use Rattle.ground.specs.Answers.{accepts};
+ghost use Rattle.refusals.specs.Refusals.{answered};
 ghost use Rattle.octets.specs.Spell.{spelled};
 ghost use Rattle.octets.specs.Lengths.{length_octets};
 ghost use Rattle.operators.specs.Ops.{kind_of, list_octets};
@@ -17,24 +18,18 @@ ghost use Rattle.stored.specs.Pieces.{piece_at};
 ghost use Rattle.stored.specs.Distinguishers.{distinguisher_at};
 ghost use Rattle.stored.specs.Stored.{pieces_from};
 ghost use Rattle.listwriting.specs.Lists.{size_in};
-ghost use Rattle.measuring.specs.Bodies.{lent, ops_of, prefix_octets, piece_octets, body_octets, distinguisher_octets};
-ghost use Rattle.measuring.specs.Grounds.{inside_of, prefix_taken, piece_taken, all_taken, told_measured};
-ghost use Rattle.writing.specs.Writings.{told_written, counted, octets_in, nlri_octets, body_from, written_from, written_in};
+ghost use Rattle.measuring.specs.Bodies.{lent_of, ops_of, prefix_octets, piece_octets, body_octets, distinguisher_octets};
+ghost use Rattle.measuring.specs.Grounds.{inside_of, prefix_taken, piece_taken, all_taken};
+ghost use Rattle.writing.specs.Writings.{counted, octets_in, nlri_octets, body_from, written_from, written_in};
 
-use choices::{Reading, Standard};
-use measuring::Measured;
-use refusals::{Fault, FlowSpecError, Place};
-use rules::{Distinguisher, NetworkPrefix};
-use stored::Piece;
-
-// How many octets were written, or why none.
-#[derive(Clone, Copy)]
-pub enum Written {
-    Octets(usize),
-    Refused(Fault),
-}
+use choices::Reading;
+use measuring::Lent;
+use refusals::{Fault, FlowSpecError};
+use rules::NetworkPrefix;
+use stored::{Piece, View};
 
 // The first k of the four octets of an IPv4 address, straight: nearly every rule has one.
+#[tactic(auto, using(crate::proofs::Stores::high_three))]
 fn put_high(out: &mut [u8], at: usize, k: usize, v: u64)
     requires { (k ≤ 4) × (at + k ≤ length out.old) }
     ensures { out.new ≡ sets out.old at (spelled k (v / 2 ^ (32 - 8 * k))) }
@@ -60,6 +55,7 @@ fn put_ipv4(len: u8, address: u32, out: &mut [u8], at: usize)
     put_high(out, from, prefixes::octets_of(len), address as u64);
 }
 
+#[tactic(auto, using(prefixwriting::proofs::Puts::length_plain, prefixwriting::proofs::Puts::length_standard, prefixwriting::proofs::Puts::valid_ranged))]
 fn put_other(writing: Reading, prefix: NetworkPrefix, out: &mut [u8], at: usize)
     requires taken { prefix_taken writing prefix ≡ true }
     requires room { at + length (prefix_octets writing prefix) ≤ length out.old }
@@ -67,8 +63,7 @@ fn put_other(writing: Reading, prefix: NetworkPrefix, out: &mut [u8], at: usize)
 {
     match writing {
         Reading::Plain => prefixwriting::put_plain(prefix, out, at),
-        Reading::Ipv4 => prefixwriting::put_standard(prefix, out, at),
-        Reading::Ipv6 => prefixwriting::put_standard(prefix, out, at),
+        Reading::Ipv4 | Reading::Ipv6 => prefixwriting::put_standard(prefix, out, at),
     }
 }
 
@@ -86,83 +81,75 @@ fn put_prefix(writing: Reading, tag: u8, prefix: NetworkPrefix, out: &mut [u8], 
 }
 
 // A list that lies within the lent lists, and the place after it.
+#[tactic(auto, unfolding(listwriting::specs::Lists::size_in, operators::specs::Ops::ops_in, operators::specs::Ops::list_octets))]
 fn put_operators(
     tag: u8,
-    values: &[u64],
-    octets: &[u8],
-    first: usize,
+    lent: Lent,
     start: usize,
     count: usize,
     out: &mut [u8],
     at: usize,
 ) -> usize
-    requires taken { inside_of (lent values.now octets.now first) start count ≡ true }
-    requires room { at + size_in octets.now (first + start) count ≤ length out.old }
-    ensures next { result ≡ at + size_in octets.now (first + start) count }
-    ensures octets { out.new ≡ sets out.old at (list_octets (kind_of tag) (ops_of (lent values.now octets.now first) start count)) }
+    requires taken { inside_of (lent_of lent) start count ≡ true }
+    requires room { at + size_in lent.octets.now (lent.first + start) count ≤ length out.old }
+    ensures next { result ≡ at + size_in lent.entry.octets.now (lent.entry.first + start) count }
+    ensures octets { out.new ≡ sets out.old at (list_octets (kind_of tag) (ops_of (lent_of lent.entry) start count)) }
 {
     if count == 0 {
         return at;
     }
-    let list = operators::kind_of(tag);
-    listwriting::put_list(list, values, octets, first + start, count, out, at)
+    let kind = operators::kind_of(tag);
+    let from = lent.first + start;
+    listwriting::put_list(kind, lent.values, lent.octets, from, count, out, at)
 }
 
 // The component at a word, which was weighed, and the place after it. A list and an IPv4 prefix go straight: most components are one of them.
+#[tactic(auto, using(crate::proofs::Stores::prefix_taken_lem, crate::proofs::Stores::prefix_long, crate::proofs::Stores::ipv4_long, crate::proofs::Stores::never_taken, measuring::proofs::Weights::no_record))]
 fn put_at(
     writing: Reading,
     words: &[u64],
     word: usize,
-    values: &[u64],
-    octets: &[u8],
-    first: usize,
+    lent: Lent,
     out: &mut [u8],
     at: usize,
 ) -> usize
     requires words { word + 4 ≤ length words.now }
-    requires taken { piece_taken writing (lent values.now octets.now first) (piece_at words.now word) ≡ true }
-    requires room { at + length (piece_octets writing (lent values.now octets.now first) (piece_at words.now word)) ≤ length out.old }
-    ensures next { result ≡ at + length (piece_octets writing (lent values.now octets.now first) (piece_at words.now word)) }
-    ensures octets { out.new ≡ sets out.old at (piece_octets writing (lent values.now octets.now first) (piece_at words.now word)) }
+    requires taken { piece_taken writing (lent_of lent) (piece_at words.now word) ≡ true }
+    requires room { at + length (piece_octets writing (lent_of lent) (piece_at words.now word)) ≤ length out.old }
+    ensures next { result ≡ at + length (piece_octets writing (lent_of lent.entry) (piece_at words.now word)) }
+    ensures octets { out.new ≡ sets out.old at (piece_octets writing (lent_of lent.entry) (piece_at words.now word)) }
 {
-    let v = stored::view_at(words, word);
-    if v.form == 1 {
-        out[at] = v.tag;
-        return put_operators(v.tag, values, octets, first, v.start, v.count, out, at + 1);
-    }
-    if v.form == 2 {
-        out[at] = v.tag;
-        put_ipv4(v.length, v.address, out, at + 1);
-        return at + 2 + prefixes::octets_of(v.length);
-    }
-    let piece = stored::piece_at(words, word);
-    match piece {
-        Piece::Prefix { tag, prefix } => put_prefix(writing, tag, prefix, out, at),
-        _ => at,
+    match stored::view_at(words, word) {
+        View::List { tag, start, count } => {
+            out[at] = tag;
+            put_operators(tag, lent, start, count, out, at + 1)
+        }
+        View::Ipv4 {
+            tag,
+            length,
+            address,
+        } => {
+            out[at] = tag;
+            put_ipv4(length, address, out, at + 1);
+            at + 2 + prefixes::octets_of(length)
+        }
+        View::Ipv6 { .. } | View::Other => match stored::piece_at(words, word) {
+            Piece::Prefix { tag, prefix } => put_prefix(writing, tag, prefix, out, at),
+            _ => at,
+        },
     }
 }
 
 // The second walk, over components that were measured, where there is room.
-fn put_body(
-    writing: Reading,
-    words: &[u64],
-    count: usize,
-    first: usize,
-    values: &[u64],
-    octets: &[u8],
-    out: &mut [u8],
-    at: usize,
-)
+fn put_body(writing: Reading, words: &[u64], count: usize, lent: Lent, out: &mut [u8], at: usize)
     requires words { 4 * count ≤ length words.now }
-    requires taken { all_taken writing (lent values.now octets.now first) (pieces_from count words.now 0) ≡ true }
-    requires room { at + length (body_octets writing (lent values.now octets.now first) (pieces_from count words.now 0)) ≤ length out.old }
-    ensures { out.new ≡ sets out.old at (body_octets writing (lent values.now octets.now first) (pieces_from count words.now 0)) }
+    requires taken { all_taken writing (lent_of lent) (pieces_from count words.now 0) ≡ true }
+    requires room { at + length (body_octets writing (lent_of lent) (pieces_from count words.now 0)) ≤ length out.old }
+    ensures { out.new ≡ sets out.old at (body_octets writing (lent_of lent.entry) (pieces_from count words.now 0)) }
 {
     let mut p = at;
-    let mut i = 0;
-    while i < count {
-        p = put_at(writing, words, 4 * i, values, octets, first, out, p);
-        i += 1;
+    for i in 0..count {
+        p = put_at(writing, words, 4 * i, lent, out, p);
     }
 }
 
@@ -174,8 +161,8 @@ fn put_front(writing: Reading, words: &[u64], out: &mut [u8], at: usize) -> usiz
     ensures octets { out.new ≡ sets out.old at (distinguisher_octets writing (distinguisher_at words.now 0)) }
 {
     match measuring::front_of(writing, words, 0) {
-        Distinguisher::Absent => at,
-        Distinguisher::Is(bits) => {
+        None => at,
+        Some(bits) => {
             octets::write_value(out, at, 3, bits);
             at + 8
         }
@@ -183,37 +170,37 @@ fn put_front(writing: Reading, words: &[u64], out: &mut [u8], at: usize) -> usiz
 }
 
 // The rule at the front of the words, measured: how many octets its body takes, or BadRecord, or ValueTooLarge. Nothing is written.
-pub fn measure(writing: Reading, words: &[u64], values: &[u64], octets: &[u8]) -> Measured
-    ensures { told_measured result ≡ counted (body_from writing words.now values.now octets.now) }
+#[tactic(auto, using(crate::proofs::Ways::few_words, crate::proofs::Ways::no_frame, crate::proofs::Ways::by_frame))]
+pub fn measure(
+    writing: Reading,
+    words: &[u64],
+    values: &[u64],
+    octets: &[u8],
+) -> Result<usize, Fault>
+    ensures { answered result ≡ counted (body_from writing words.now values.now octets.now) }
 {
-    if words.len() < 64 {
-        return Measured::Refused(Fault {
-            error: FlowSpecError::BadRecord,
-            place: Place::Nowhere,
-        });
-    }
-    if !stored::is_framed(words, 0) {
-        return Measured::Refused(Fault {
-            error: FlowSpecError::BadRecord,
-            place: Place::Nowhere,
-        });
+    if words.len() < 64 || !stored::is_framed(words, 0) {
+        return Err(FlowSpecError::BadRecord.into());
     }
     let count = stored::count_at(words, 0);
-    let first = stored::first_at(words, 0);
-    measuring::measure_body(writing, words, count, first, values, octets)
+    let lent = Lent {
+        values,
+        octets,
+        first: stored::first_at(words, 0),
+    };
+    measuring::measure_body(writing, words, count, lent)
 }
 
 // How many octets the length of a body takes.
+#[tactic(auto, unfolding(octets::specs::Lengths::length_octets))]
 fn length_size(body: usize) -> usize
     ensures { result ≡ length (length_octets body) }
 {
-    if body < 240 {
-        return 1;
-    }
-    2
+    if body < 240 { 1 } else { 2 }
 }
 
 // How many octets a body of so many takes, with its length. No entry point.
+#[tactic(auto, using(crate::proofs::Ways::length_most))]
 pub fn nlri_size(body: usize) -> usize
     requires { body ≤ 4095 }
     ensures { result ≡ length (length_octets body) + body }
@@ -223,6 +210,7 @@ pub fn nlri_size(body: usize) -> usize
 
 // A rule that was measured, where there is room: its length and its body, at the front of `out`. A caller that has written before lends the
 // tail of its output on. No entry point.
+#[tactic(auto, using(crate::proofs::Ways::measured_whole, crate::proofs::Ways::front_room, crate::proofs::Ways::put_words, crate::proofs::Ways::put_taken, crate::proofs::Stores::kept))]
 pub fn put(
     writing: Reading,
     words: &[u64],
@@ -235,49 +223,49 @@ pub fn put(
     requires room { length (length_octets body) + body ≤ length out.old }
     ensures { out.new ≡ sets out.old 0 (nlri_octets (octets_in (body_from writing words.now values.now octets.now))) }
 {
-    octets::encode_length(body, out);
+    let _ = octets::encode_length(body, out);
     let count = stored::count_at(words, 0);
-    let first = stored::first_at(words, 0);
+    let lent = Lent {
+        values,
+        octets,
+        first: stored::first_at(words, 0),
+    };
     let at = put_front(writing, words, out, length_size(body));
-    put_body(writing, words, count, first, values, octets, out, at);
+    put_body(writing, words, count, lent, out, at);
 }
 
 // The rule at the front of the words, by a writing.
+#[tactic(auto, unfolding(crate::specs::Writings::written_from))]
 pub fn write_from(
     writing: Reading,
     words: &[u64],
     values: &[u64],
     octets: &[u8],
     out: &mut [u8],
-) -> Written
-    ensures told { told_written result ≡ counted (written_from writing words.now values.now octets.now (length out.old)) }
+) -> Result<usize, Fault>
+    ensures told { answered result ≡ counted (written_from writing words.now values.now octets.now (length out.old)) }
     ensures octets { out.new ≡ sets out.old 0 (octets_in (written_from writing words.now values.now octets.now (length out.old))) }
 {
-    let m = measure(writing, words, values, octets);
-    match m {
-        Measured::Body(body) => {
-            let size = nlri_size(body);
-            if out.len() < size {
-                return Written::Refused(Fault {
-                    error: FlowSpecError::NoRoom(size),
-                    place: Place::Nowhere,
-                });
-            }
-            put(writing, words, values, octets, body, out);
-            Written::Octets(size)
-        }
-        Measured::Refused(fault) => Written::Refused(fault),
+    let body = measure(writing, words, values, octets)?;
+    let size = nlri_size(body);
+    if out.len() < size {
+        return Err(FlowSpecError::NoRoom(size).into());
     }
+    put(writing, words, values, octets, body, out);
+    Ok(size)
 }
 
 // The standard writing in a family, the one that the call names: the family that the rule itself was stored with is not looked at.
-pub fn write(family: u8, words: &[u64], values: &[u64], octets: &[u8], out: &mut [u8]) -> Written
-    ensures told { told_written result ≡ counted (written_in family words.now values.now octets.now (length out.old)) }
+#[tactic(auto, unfolding(crate::specs::Writings::written_in, crate::specs::Writings::body_in, crate::specs::Writings::written_from))]
+pub fn write(
+    family: u8,
+    words: &[u64],
+    values: &[u64],
+    octets: &[u8],
+    out: &mut [u8],
+) -> Result<usize, Fault>
+    ensures told { answered result ≡ counted (written_in family words.now values.now octets.now (length out.old)) }
     ensures octets { out.new ≡ sets out.old 0 (octets_in (written_in family words.now values.now octets.now (length out.old))) }
 {
-    let standard = choices::reading_of(family);
-    match standard {
-        Standard::Is(writing) => write_from(writing, words, values, octets, out),
-        Standard::Refused(fault) => Written::Refused(fault),
-    }
+    write_from(Reading::try_from(family)?, words, values, octets, out)
 }

@@ -4,14 +4,9 @@ use Rattle.krubbadin.specs.Surface.{which_of}
 use Rattle.choices.specs.Choices.{expects}
 use Rattle.krubbadin.proofs.krubbadin_read.Goals as goal
 
-pub returns-then-checked-ne0-clause-answer : goal.returns-then-checked-ne0-clause-answer
-returns-then-checked-ne0-clause-answer c = (refused_check (expects c.args.standard) c.args.input.now c.args.words.now c.args.values.now c.args.octets.now c.krubbadin_check-checked.result (which_of c.args.standard c.args.family) c.krubbadin_check-checked.ensures.answer c.if-checked-ne0.true).0
-
-pub returns-then-checked-ne0-clause-words : goal.returns-then-checked-ne0-clause-words
-returns-then-checked-ne0-clause-words c = (refused_check (expects c.args.standard) c.args.input.now c.args.words.now c.args.values.now c.args.octets.now c.krubbadin_check-checked.result (which_of c.args.standard c.args.family) c.krubbadin_check-checked.ensures.answer c.if-checked-ne0.true).1.0
-
-pub returns-then-checked-ne0-clause-values : goal.returns-then-checked-ne0-clause-values
-returns-then-checked-ne0-clause-values c = (refused_check (expects c.args.standard) c.args.input.now c.args.words.now c.args.values.now c.args.octets.now c.krubbadin_check-checked.result (which_of c.args.standard c.args.family) c.krubbadin_check-checked.ensures.answer c.if-checked-ne0.true).1.1.0
-
-pub returns-then-checked-ne0-clause-octets : goal.returns-then-checked-ne0-clause-octets
-returns-then-checked-ne0-clause-octets c = (refused_check (expects c.args.standard) c.args.input.now c.args.words.now c.args.values.now c.args.octets.now c.krubbadin_check-checked.result (which_of c.args.standard c.args.family) c.krubbadin_check-checked.ensures.answer c.if-checked-ne0.true).1.1.1
+pub returns-then-checked-ne0 : goal.returns-then-checked-ne0
+returns-then-checked-ne0 c =
+    let a = c.args in
+    let r = c.krubbadin_check-checked in
+    let p = refused_check (expects a.standard) a.input.now a.words.now a.values.now a.octets.now r.result (which_of a.standard a.family) r.ensures.answer c.if-checked-ne0.true in
+    record { answer = p.0; words = p.1.0; values = p.1.1.0; octets = p.1.1.1 }

@@ -3,10 +3,7 @@ use native.Mathlib.Omega.{arith}
 use Rattle.lists.proofs.Turns.{whole_in, filled_first}
 use Rattle.lists.proofs.fill_on.Goals as goal
 
-pub loop-kind-init : goal.loop-kind-init
-loop-kind-init c =
+pub loop-end-init : goal.loop-end-init
+loop-end-init c =
     let f = c.requires in
     filled_first f (omega (arith, whole_in _ _ f.whole))
-
-pub bounds-s-i : goal.bounds-s-i
-bounds-s-i c = omega (arith, whole_in _ _ c.loop-kind.invariant.filling.whole)

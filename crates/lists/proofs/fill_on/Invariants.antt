@@ -4,8 +4,8 @@ use lib.ListN.{length}
 use Rattle.lists.specs.Runs.{Filled}
 use Rattle.lists.proofs.fill_on.Given as goal
 
-abbrev pub invariant-loop-kind : goal.invariant-loop-kind
-invariant-loop-kind l = Filled l.kind l.s l.start l.initial.values l.initial.octets l.at 0 l.values l.octets l.i l.c
+abbrev pub invariant-loop-end : goal.invariant-loop-end
+invariant-loop-end l = Filled l.kind l.s l.initial.values l.initial.octets l.at 0 l.values l.octets l.from.next.at l.from.count
 
-abbrev pub decreases-loop-kind : goal.decreases-loop-kind
-decreases-loop-kind l = length l.s - l.i
+abbrev pub decreases-loop-end : goal.decreases-loop-end
+decreases-loop-end l = length l.s - l.from.next.at

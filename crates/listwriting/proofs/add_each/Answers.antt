@@ -4,4 +4,4 @@ use Rattle.listwriting.proofs.Joins.{adds_chain, adds_one}
 use Rattle.listwriting.proofs.add_each.Goals as goal
 
 pub loop-q-preserved : goal.loop-q-preserved
-loop-q-preserved c = (omega arith, omega arith, adds_chain _ _ (omega arith) c.loop-q.invariant.2 (adds_one _ _ c.loop-q.q (c.type_inv.values c.loop-q.q).fits _ _ _))
+loop-q-preserved c = adds_chain _ _ (omega arith) c.loop-q.invariant (adds_one _ _ c.loop-q.q (c.type_inv.values c.loop-q.q).fits _ _ _)

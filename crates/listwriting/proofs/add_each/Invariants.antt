@@ -1,10 +1,6 @@
 -- `listwriting::add_each` meets its contract, which is the invariant: each operator is a link of the chain.
-use Prim.Native.Nat.{◌-◌, ◌≤◌}
 use Rattle.listwriting.specs.Runs.{sum, Adds}
 use Rattle.listwriting.proofs.add_each.Given as goal
 
 abbrev pub invariant-loop-q : goal.invariant-loop-q
-invariant-loop-q l = (l.from ≤ l.q) × (l.q ≤ l.to) × Adds l.values l.octets l.from l.q (sum l.initial.over l.initial.marks l.initial.n) (sum l.over l.marks l.n)
-
-abbrev pub decreases-loop-q : goal.decreases-loop-q
-decreases-loop-q l = l.to - l.q
+invariant-loop-q l = Adds l.values l.octets l.from l.q (sum l.initial.over l.initial.marks l.initial.size) (sum l.over l.marks l.size)

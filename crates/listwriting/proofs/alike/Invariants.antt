@@ -1,5 +1,5 @@
 -- `listwriting::alike` meets its contract. The invariant: it holds of the octets so far.
-use Prim.Native.Nat.{◌+◌, ◌-◌}
+use Prim.Native.Nat.{◌+◌}
 use mathlib.Core.Path.{◌≡◌}
 use mathlib.Core.Bool.{true}
 use Rattle.listwriting.specs.Runs.{Alike}
@@ -7,6 +7,3 @@ use Rattle.listwriting.proofs.alike.Given as goal
 
 abbrev pub invariant-loop-k : goal.invariant-loop-k
 invariant-loop-k l = l.same ≡ true → Alike l.octets l.code l.from (l.from + l.k)
-
-abbrev pub decreases-loop-k : goal.decreases-loop-k
-decreases-loop-k l = 16 - l.k

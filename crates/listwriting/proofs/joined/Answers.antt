@@ -1,7 +1,6 @@
 -- `listwriting::joined` meets its contract. The invariant: it holds of the values so far.
-use native.Mathlib.Omega.{arith}
 use Rattle.listwriting.proofs.Joins.{joined_more}
 use Rattle.listwriting.proofs.joined.Goals as goal
 
 pub loop-k-preserved : goal.loop-k-preserved
-loop-k-preserved c = (omega arith, joined_more _ _ _ _ c.loop-k.invariant.1)
+loop-k-preserved c = joined_more _ _ _ _ c.loop-k.invariant

@@ -12,10 +12,10 @@ returns-then-codes-ge4 c = sym (narrow_all _ _ _ _ c.if-codes-ge4.true)
 pub loop-q-preserved : goal.loop-q-preserved
 loop-q-preserved c =
     let a = c.args in
-    (omega arith, narrow_on a.codes a.octets.now c.loop-q.q (a.from + a.count) (omega arith) c.loop-q.all ∙ c.loop-q.invariant.1)
+    narrow_on a.codes a.octets.now c.loop-q.q (a.from + a.count) (omega arith) c.loop-q.all ∙ c.loop-q.invariant
 
 pub returns : goal.returns
 returns c =
     let l = c.loop-q in
     let a = c.args in
-    sym (and-true l.all) ∙ ap (λ b. l.all && b) (sym (narrow_none a.codes a.octets.now l.q (a.from + a.count) (omega arith))) ∙ l.invariant.1
+    sym (and-true l.all) ∙ ap (λ b. l.all && b) (sym (narrow_none a.codes a.octets.now l.q (a.from + a.count) (omega arith))) ∙ l.invariant

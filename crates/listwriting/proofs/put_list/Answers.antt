@@ -10,27 +10,22 @@ added : (a n : ℕ) → a + n - a ≡ n
 added a n = omega arith
 
 pub bounds-out-at : goal.bounds-out-at
-bounds-out-at c = omega (arith, lone_room c.args.kind c.args.values.now c.args.octets.now c.args.from c.args.count c.args.at c.args.out.now c.if-count-eq1.true c.if-octets-from-eq0.true c.requires.room)
+bounds-out-at c =
+    let a = c.args in
+    omega (arith, lone_room a.kind a.values.now a.octets.now a.from a.count a.at a.out.now c.if-count-eq1.true c.if-octets-from-eq0.true c.requires.room)
 
 pub write_value-requires-clause-code_in_bounds : goal.write_value-requires-clause-code_in_bounds
-write_value-requires-clause-code_in_bounds c = simp length-set (omega (arith, lone_room c.args.kind c.args.values.now c.args.octets.now c.args.from c.args.count c.args.at c.args.out.now c.if-count-eq1.true c.if-octets-from-eq0.true c.requires.room))
-
-pub returns-then-octets-from-eq0-clause-next : goal.returns-then-octets-from-eq0-clause-next
-returns-then-octets-from-eq0-clause-next c = (put_lone _ _ _ _ _ _ _ c.if-count-eq1.true c.if-octets-from-eq0.true c.cleared.ensures c.write_value.ensures).0
-
-pub returns-then-octets-from-eq0-clause-octets : goal.returns-then-octets-from-eq0-clause-octets
-returns-then-octets-from-eq0-clause-octets c = (put_lone _ _ _ _ _ _ _ c.if-count-eq1.true c.if-octets-from-eq0.true c.cleared.ensures c.write_value.ensures).1
-
-pub returns-clause-next : goal.returns-clause-next
-returns-clause-next c =
+write_value-requires-clause-code_in_bounds c =
     let a = c.args in
-    let e = put_end _ _ _ _ _ _ _ c.loop-q.invariant (omega arith) in
-    let n = added a.from a.count in
-    rw n at e.0
+    simp length-set (omega (arith, lone_room a.kind a.values.now a.octets.now a.from a.count a.at a.out.now c.if-count-eq1.true c.if-octets-from-eq0.true c.requires.room))
 
-pub returns-clause-octets : goal.returns-clause-octets
-returns-clause-octets c =
-    let a = c.args in
+pub returns-then-octets-from-eq0 : goal.returns-then-octets-from-eq0
+returns-then-octets-from-eq0 c =
+    let e = put_lone _ _ _ _ _ _ _ c.if-count-eq1.true c.if-octets-from-eq0.true c.cleared.ensures c.write_value.ensures in
+    record { next = e.0; octets = e.1 }
+
+pub returns : goal.returns
+returns c =
     let e = put_end _ _ _ _ _ _ _ c.loop-q.invariant (omega arith) in
-    let n = added a.from a.count in
-    rw n at e.1
+    let n = added c.args.from c.args.count in
+    record { next = rw n at e.0; octets = rw n at e.1 }

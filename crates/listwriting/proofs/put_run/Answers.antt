@@ -4,17 +4,22 @@ use lib.ListN.{length-set}
 use Rattle.listwriting.proofs.Puts.{put_room, put_more}
 use Rattle.listwriting.proofs.put_run.Goals as goal
 
-pub bounds-out-p : goal.bounds-out-p
-bounds-out-p c = omega (arith, put_room _ _ _ _ _ _ _ c.loop-q.invariant.0 _ _ c.requires.code.1 c.loop-q.invariant.1 c.loop-q.invariant.2 c.requires.room)
+pub bounds-out-at : goal.bounds-out-at
+bounds-out-at g c =
+    let i = c.loop-next.invariant in
+    omega (arith, put_room _ _ _ _ _ _ _ i.0 _ _ c.stride-width.ensures i.1 i.2 c.requires.room)
 
 pub write_value-requires-clause-code_in_bounds : goal.write_value-requires-clause-code_in_bounds
-write_value-requires-clause-code_in_bounds c = simp length-set (put_room _ _ _ _ _ _ _ c.loop-q.invariant.0 _ _ c.requires.code.1 c.loop-q.invariant.1 c.loop-q.invariant.2 c.requires.room)
+write_value-requires-clause-code_in_bounds g c =
+    let i = c.loop-next.invariant in
+    simp length-set (put_room _ _ _ _ _ _ _ i.0 _ _ c.stride-width.ensures i.1 i.2 c.requires.room)
 
-pub returns-then-to-q-clause-ran : goal.returns-then-to-q-clause-ran
-returns-then-to-q-clause-ran c = put_more _ _ _ _ _ _ _ c.loop-q.invariant.0 _ _ c.requires.code.1 c.loop-q.invariant.1 c.loop-q.invariant.2 c.cleared.ensures c.write_value.ensures
+pub loop-next-preserved : goal.loop-next-preserved
+loop-next-preserved g c =
+    let i = c.loop-next.invariant in
+    (put_more _ _ _ _ _ _ _ i.0 _ _ c.stride-width.ensures i.1 i.2 c.cleared.ensures c.write_value.ensures, omega arith, c.if-ops-next-2.false)
 
-pub returns-then-octets-q-clause-ran : goal.returns-then-octets-q-clause-ran
-returns-then-octets-q-clause-ran c = put_more _ _ _ _ _ _ _ c.loop-q.invariant.0 _ _ c.requires.code.1 c.loop-q.invariant.1 c.loop-q.invariant.2 c.cleared.ensures c.write_value.ensures
-
-pub loop-q-preserved : goal.loop-q-preserved
-loop-q-preserved c = (put_more _ _ _ _ _ _ _ c.loop-q.invariant.0 _ _ c.requires.code.1 c.loop-q.invariant.1 c.loop-q.invariant.2 c.cleared.ensures c.write_value.ensures, omega arith, c.if-octets-q.false)
+pub returns-then-ops-next-clause-ran : goal.returns-then-ops-next-clause-ran
+returns-then-ops-next-clause-ran g c =
+    let i = c.loop-next.invariant in
+    put_more _ _ _ _ _ _ _ i.0 _ _ c.stride-width.ensures i.1 i.2 c.cleared.ensures c.write_value.ensures

@@ -6,8 +6,8 @@ use Rattle.octets.specs.Widths.{code_in}
 use Rattle.listwriting.specs.Runs.{Put}
 use Rattle.listwriting.proofs.put_run.Given as goal
 
-abbrev pub invariant-loop-q : goal.invariant-loop-q
-invariant-loop-q l = Put l.kind l.values l.octets l.from l.to l.at l.initial.out l.out l.q l.p × (l.q < l.to) × (code_in (get_or l.octets l.q 0) ≡ l.code)
+abbrev pub invariant-loop-next : goal.invariant-loop-next
+invariant-loop-next g l = Put l.kind l.ops.values.now l.ops.octets.now l.ops.from l.ops.to l.fn.at l.initial.out l.out l.next l.at × (l.next < l.ops.to) × (code_in (get_or l.ops.octets.now l.next 0) ≡ g.row.CODE)
 
-abbrev pub decreases-loop-q : goal.decreases-loop-q
-decreases-loop-q l = l.to - l.q
+abbrev pub decreases-loop-next : goal.decreases-loop-next
+decreases-loop-next g l = l.ops.to - l.next

@@ -19,7 +19,7 @@ loop-q-preserved c =
     let a = c.args in
     let w : c.stride-n.result ≡ width_of (get_or a.octets.now c.loop-q.q 0) = c.stride-n.ensures in
     let m = size_more a.octets.now c.loop-q.q (a.from + a.count) (omega arith) in
-    (c.loop-q.invariant.0, omega arith, omega arith, omega (arith, width_most (get_or a.octets.now c.loop-q.q 0), w), omega (arith, w, m))
+    (omega (arith, width_most (get_or a.octets.now c.loop-q.q 0), w), omega (arith, w, m))
 
 pub returns : goal.returns
 returns c =

@@ -6,7 +6,4 @@ use Rattle.listwriting.specs.Lists.{size_in}
 use Rattle.listwriting.proofs.size.Given as goal
 
 abbrev pub invariant-loop-q : goal.invariant-loop-q
-invariant-loop-q l = (l.to ≡ l.from + l.count) × (l.from ≤ l.q) × (l.q ≤ l.to) × (l.n ≤ l.count + 8 * (l.q - l.from)) × (l.n + size_in l.octets l.q (l.to - l.q) ≡ size_in l.octets l.from l.count + (l.to - l.q))
-
-abbrev pub decreases-loop-q : goal.decreases-loop-q
-decreases-loop-q l = l.to - l.q
+invariant-loop-q l = (l.n ≤ l.count + 8 * (l.q - l.from)) × (l.n + size_in l.octets l.q (l.from + l.count - l.q) ≡ size_in l.octets l.from l.count + (l.from + l.count - l.q))

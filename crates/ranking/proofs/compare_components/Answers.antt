@@ -1,21 +1,13 @@
--- `ranking::compare_components` meets its contract: lists of one type by their views, the same words at once, all others by their pieces.
-use mathlib.Core.Path.{◌≡◌, sym, ◌∙◌}
-use borrow.Author.Tests.{eqb-true, eqb-false, not-true}
-use Rattle.ground.proofs.Cases.{both}
+-- `ranking::compare_components` meets its contract: of lists of one type, as their views show them.
+use mathlib.Core.Path.{◌∙◌}
 use Rattle.stored.specs.Pieces.{piece_at}
-use Rattle.ranking.proofs.ComponentsInTurn.{by_views, same_words_equal}
+use Rattle.ranking.proofs.ComponentsInTurn.{by_views}
 use Rattle.ranking.proofs.compare_components.Goals as goal
 
-pub returns-then-v-w : goal.returns-then-v-w
-returns-then-v-w c =
+pub returns-in-List-List : goal.returns-in-List-List
+returns-in-List-List c =
     let g = c.args in
+    let v = c.in-List-List in
     c.compare_lists.ensures
-    ∙ by_views g.values.now g.octets.now g.first g.values2.now g.octets2.now g.first2 c.view_at-v.result c.view_at-w.result (piece_at g.words.now g.at) (piece_at g.words2.now g.at2) _
-    c.view_at-v.ensures c.view_at-w.ensures ((let alike_is : (c.view_at-v.result.form ≡ 1) × (c.view_at-w.result.form ≡ 1) × (c.view_at-v.result.tag ≡ c.view_at-w.result.tag) = let b = both _ _ c.if-v-w.true in let f = both _ _ b.0 in (eqb-true _ _ f.0, eqb-true _ _ f.1, eqb-true _ _ b.1) in alike_is)).0 ((let alike_is : (c.view_at-v.result.form ≡ 1) × (c.view_at-w.result.form ≡ 1) × (c.view_at-v.result.tag ≡ c.view_at-w.result.tag) = let b = both _ _ c.if-v-w.true in let f = both _ _ b.0 in (eqb-true _ _ f.0, eqb-true _ _ f.1, eqb-true _ _ b.1) in alike_is)).1 ((let alike_is : (c.view_at-v.result.form ≡ 1) × (c.view_at-w.result.form ≡ 1) × (c.view_at-v.result.tag ≡ c.view_at-w.result.tag) = let b = both _ _ c.if-v-w.true in let f = both _ _ b.0 in (eqb-true _ _ f.0, eqb-true _ _ f.1, eqb-true _ _ b.1) in alike_is)).2 c.kind_of.ensures
-
-pub returns-then-v-same_words : goal.returns-then-v-same_words
-returns-then-v-same_words c =
-    let g = c.args in
-    let b = both _ _ c.if-v-same_words.true in
-    same_words_equal g.values.now g.octets.now g.first g.values2.now g.octets2.now g.first2 g.words.now g.at g.words2.now g.at2
-    (c.view_at-v.ensures.other (eqb-false _ _ (not-true _ b.0))) (sym c.same_words.ensures ∙ b.1)
+    ∙ by_views g.a.values.now g.a.octets.now g.a.first g.b.values.now g.b.octets.now g.b.first v.tag v.start v.count v.tag2 v.start2 v.count2 (piece_at g.a.words.now g.a.at) (piece_at g.b.words.now g.b.at) _ _ _
+    v.ensures v.ensures' c.if-tag-tag2.true c.kind_of.ensures c.operators.ensures c.operators-in-List-List.ensures

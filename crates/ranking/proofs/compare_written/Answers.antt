@@ -6,7 +6,7 @@ use Rattle.ranking.proofs.compare_written.Goals as goal
 pub returns : goal.returns
 unfolding rank_op
 returns c =
-    c.then_by.ensures
+    c.then.ensures
     ∙ ap₂ then_by
-    (c.compare_numbers-octets.ensures ∙ ap₂ lower c.cleared.ensures c.cleared-2.ensures)
-    (c.compare_numbers.ensures ∙ ap₂ lower c.cut.ensures c.cut-2.ensures)
+    (c.cmp.ensures ∙ ap₂ lower c.cleared.ensures c.cleared-2.ensures)
+    (c.cmp-2.ensures ∙ ap₂ lower c.cut.ensures c.cut-2.ensures)

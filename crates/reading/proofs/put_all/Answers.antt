@@ -7,14 +7,10 @@ pub loop-at-init : goal.loop-at-init
 loop-at-init c = (omega arith, stored_first c.args.reading _ c.args.stop c.args.first _ _ _ c.requires.stop_value c.requires.in_bounds c.requires.places)
 
 pub put_part-t-requires-clause-standing : goal.put_part-t-requires-clause-standing
-put_part-t-requires-clause-standing c =
-    let h = c.loop-at.invariant.1 in
-    standing h c.loop-at-test.true
+put_part-t-requires-clause-standing c = standing c.loop-at.invariant.1 c.loop-at-test.true
 
 pub put_part-t-requires-clause-places : goal.put_part-t-requires-clause-places
-put_part-t-requires-clause-places c =
-    let h = c.loop-at.invariant.1 in
-    (asked h c.loop-at-test.true).1
+put_part-t-requires-clause-places c = (asked c.loop-at.invariant.1 c.loop-at-test.true).1
 
 pub overflow_add-start : goal.overflow_add-start
 overflow_add-start c =
@@ -30,14 +26,7 @@ loop-at-preserved c =
     let h = c.loop-at.invariant.1 in
     (omega (arith, e.end, bounds h c.loop-at-test.true), stored_more h c.loop-at-test.true _ _ _ e.end e.count e.words e.values e.octets)
 
-pub returns-clause-words : goal.returns-clause-words
-returns-clause-words c = rw (← c.family_of.ensures) ((stored_end c.loop-at.invariant.1 c.loop-at-test.false _ c.put_tail.ensures).0)
-
-pub returns-clause-values : goal.returns-clause-values
-returns-clause-values c = (stored_end c.loop-at.invariant.1 c.loop-at-test.false _ c.put_tail.ensures).1.0
-
-pub returns-clause-octets : goal.returns-clause-octets
-returns-clause-octets c = (stored_end c.loop-at.invariant.1 c.loop-at-test.false _ c.put_tail.ensures).1.1.0
-
-pub returns-clause-few : goal.returns-clause-few
-returns-clause-few c = (stored_end c.loop-at.invariant.1 c.loop-at-test.false _ c.put_tail.ensures).1.1.1
+pub returns : goal.returns
+returns c =
+    let e = stored_end c.loop-at.invariant.1 c.loop-at-test.false _ c.put_tail.ensures in
+    record { words = rw (← c.family_of.ensures) e.0; values = e.1.0; octets = e.1.1.0; few = e.1.1.1 }

@@ -1,29 +1,19 @@
 -- `reading::read` meets its contract: the family names no reading, or the reading that it names goes.
-use mathlib.Core.Path.{sym, ◌∙◌, ap}
-use Rattle.choices.specs.Choices.{told_standard, expects}
+use Rattle.std.proofs.lemmas.Result.{err_from_is_err_and}
+use Rattle.choices.specs.Choices.{expects}
 use Rattle.reading.proofs.Ways.{bad_family, of_family}
 use Rattle.reading.proofs.read.Goals as goal
 
-pub returns-in-Is-clause-answer : goal.returns-in-Is-clause-answer
-returns-in-Is-clause-answer c = (of_family c.args.family (expects c.args.mode) c.args.input.now c.args.words.now c.args.values.now c.args.octets.now (sym (ap told_standard c.in-Is.is) ∙ c.reading_of.ensures) (c.read_into.ensures.answer, (c.read_into.ensures.words, (c.read_into.ensures.values, c.read_into.ensures.octets)))).0
+pub returns : goal.returns
+returns c =
+    let a = c.args in
+    let r = c.read_into.ensures in
+    let p = of_family a.family (expects a.mode) a.input.now a.words.now a.values.now a.octets.now c.in_ok-try_from.ensures (r.answer, (r.words, (r.values, r.octets))) in
+    record { answer = p.0; words = p.1.0; values = p.1.1.0; octets = p.1.1.1 }
 
-pub returns-in-Is-clause-words : goal.returns-in-Is-clause-words
-returns-in-Is-clause-words c = (of_family c.args.family (expects c.args.mode) c.args.input.now c.args.words.now c.args.values.now c.args.octets.now (sym (ap told_standard c.in-Is.is) ∙ c.reading_of.ensures) (c.read_into.ensures.answer, (c.read_into.ensures.words, (c.read_into.ensures.values, c.read_into.ensures.octets)))).1.0
-
-pub returns-in-Is-clause-values : goal.returns-in-Is-clause-values
-returns-in-Is-clause-values c = (of_family c.args.family (expects c.args.mode) c.args.input.now c.args.words.now c.args.values.now c.args.octets.now (sym (ap told_standard c.in-Is.is) ∙ c.reading_of.ensures) (c.read_into.ensures.answer, (c.read_into.ensures.words, (c.read_into.ensures.values, c.read_into.ensures.octets)))).1.1.0
-
-pub returns-in-Is-clause-octets : goal.returns-in-Is-clause-octets
-returns-in-Is-clause-octets c = (of_family c.args.family (expects c.args.mode) c.args.input.now c.args.words.now c.args.values.now c.args.octets.now (sym (ap told_standard c.in-Is.is) ∙ c.reading_of.ensures) (c.read_into.ensures.answer, (c.read_into.ensures.words, (c.read_into.ensures.values, c.read_into.ensures.octets)))).1.1.1
-
-pub returns-in-Refused-clause-answer : goal.returns-in-Refused-clause-answer
-returns-in-Refused-clause-answer c = (bad_family c.args.family (expects c.args.mode) c.args.input.now c.args.words.now c.args.values.now c.args.octets.now (sym (ap told_standard c.in-Refused.is) ∙ c.reading_of.ensures)).0
-
-pub returns-in-Refused-clause-words : goal.returns-in-Refused-clause-words
-returns-in-Refused-clause-words c = (bad_family c.args.family (expects c.args.mode) c.args.input.now c.args.words.now c.args.values.now c.args.octets.now (sym (ap told_standard c.in-Refused.is) ∙ c.reading_of.ensures)).1.0
-
-pub returns-in-Refused-clause-values : goal.returns-in-Refused-clause-values
-returns-in-Refused-clause-values c = (bad_family c.args.family (expects c.args.mode) c.args.input.now c.args.words.now c.args.values.now c.args.octets.now (sym (ap told_standard c.in-Refused.is) ∙ c.reading_of.ensures)).1.1.0
-
-pub returns-in-Refused-clause-octets : goal.returns-in-Refused-clause-octets
-returns-in-Refused-clause-octets c = (bad_family c.args.family (expects c.args.mode) c.args.input.now c.args.words.now c.args.values.now c.args.octets.now (sym (ap told_standard c.in-Refused.is) ∙ c.reading_of.ensures)).1.1.1
+pub returns-in_err-try_from : goal.returns-in_err-try_from
+returns-in_err-try_from c =
+    let a = c.args in
+    let e = err_from_is_err_and c.from_residual.result c.from_residual.ensures.1 in
+    let p = bad_family a.family (expects a.mode) a.input.now a.words.now a.values.now a.octets.now c.in_err-try_from.ensures in
+    record { answer = rw (e.1, e.2) p.0; words = p.1.0; values = p.1.1.0; octets = p.1.1.1 }

@@ -1,20 +1,21 @@
 -- `satisfying::list_matches` meets its contract. The loop's invariant: the list is true just if, the group so far having its truth, what is left is.
 use mathlib.Core.Path.{sym, ◌∙◌}
 use native.Mathlib.Omega.{arith}
-use Rattle.satisfying.proofs.Groups.{none_match, first_match, turn_on, turn_stop, turn_end}
+use borrow.Author.Tests.{eqb-true, eqb-false}
+use Rattle.satisfying.proofs.Groups.{none_match, some_match, turn_on, turn_stop, turn_end}
 use Rattle.satisfying.proofs.list_matches.Goals as goal
 
-pub returns-then-count-eq0 : goal.returns-then-count-eq0
-returns-then-count-eq0 c = none_match _ _ _ _ _ c.if-count-eq0.true
+pub returns-then-is_empty : goal.returns-then-is_empty
+returns-then-is_empty c = none_match _ _ _ (eqb-true _ _ (sym c.is_empty.ensures ∙ c.if-is_empty.true))
 
-pub loop-i-init : goal.loop-i-init
-loop-i-init c = (omega arith, omega arith, rw c.truth-group.ensures (first_match _ _ _ _ _ (omega arith)))
+pub loop-place-init : goal.loop-place-init
+loop-place-init c = rw c.truth-group.ensures (some_match _ _ _ (omega (arith, eqb-false _ _ (sym c.is_empty.ensures ∙ c.if-is_empty.false))))
 
 pub returns-then-and-group : goal.returns-then-and-group
-returns-then-and-group c = sym (c.loop-i.invariant.2 ∙ turn_stop _ _ _ _ _ _ _ (omega arith) c.if-and-group.true)
+returns-then-and-group c = sym (c.loop-place.invariant ∙ turn_stop _ _ _ _ _ _ (omega arith) c.if-and-group.true)
 
-pub loop-i-preserved : goal.loop-i-preserved
-loop-i-preserved c = (omega arith, omega arith, rw c.truth.ensures (c.loop-i.invariant.2 ∙ turn_on _ _ _ _ _ _ _ (omega arith) c.if-and-group.false))
+pub loop-place-preserved : goal.loop-place-preserved
+loop-place-preserved c = rw c.truth.ensures (c.loop-place.invariant ∙ turn_on _ _ _ _ _ _ (omega arith) c.if-and-group.false)
 
 pub returns : goal.returns
-returns c = sym (c.loop-i.invariant.2 ∙ turn_end _ _ _ _ _ _ _ (omega arith))
+returns c = sym (c.loop-place.invariant ∙ turn_end _ _ _ _ _ _ (omega arith))

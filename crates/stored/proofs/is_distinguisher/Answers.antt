@@ -5,5 +5,5 @@ use Rattle.stored.proofs.is_distinguisher.Goals as goal
 pub returns-then-words-base-eq0 : goal.returns-then-words-base-eq0
 returns-then-words-base-eq0 c = test_absent _ _ c.if-words-base-eq0.true
 
-pub returns : goal.returns
-returns c = test_is _ _ c.if-words-base-eq0.false
+pub returns-else-words-base-eq0 : goal.returns-else-words-base-eq0
+returns-else-words-base-eq0 c = test_is _ _ c.if-words-base-eq0.false

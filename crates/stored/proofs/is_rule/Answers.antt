@@ -13,5 +13,5 @@ returns-then-is_framed c =
     let a = c.args in
     c.all_records.ensures ∙ ap (λ n. records_from n a.words.now a.base) c.count_at.ensures ∙ sym (by_records _ _ (sym c.is_framed.ensures ∙ c.if-is_framed.true))
 
-pub returns : goal.returns
-returns c = sym (no_frame _ _ (sym c.is_framed.ensures ∙ c.if-is_framed.false))
+pub returns-else-is_framed : goal.returns-else-is_framed
+returns-else-is_framed c = c.if-is_framed.false ∙ sym (no_frame _ _ (sym c.is_framed.ensures ∙ c.if-is_framed.false))

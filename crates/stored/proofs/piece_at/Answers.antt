@@ -4,14 +4,14 @@ use Rattle.stored.specs.Pieces.{piece_of, piece_at}
 use Rattle.stored.proofs.Words.{piece_none}
 use Rattle.stored.proofs.piece_at.Goals as goal
 
-pub returns-then-tag-eq0 : goal.returns-then-tag-eq0
+pub returns-in-0 : goal.returns-in-0
 unfolding piece_at
-returns-then-tag-eq0 c = piece_none c.quad_at-q.result c.if-tag-eq0.true ∙ ap piece_of c.quad_at-q.ensures
+returns-in-0 c = piece_none c.quad_at-q.result c.in-0.is ∙ ap piece_of c.quad_at-q.ensures
 
-pub returns-then-tag-lt3 : goal.returns-then-tag-lt3
+pub returns-in-1 : goal.returns-in-1
 unfolding piece_at
-returns-then-tag-lt3 c = c.prefix_at.ensures ∙ ap piece_of c.quad_at-q.ensures
+returns-in-1 c = c.prefix_at.ensures ∙ ap piece_of c.quad_at-q.ensures
 
-pub returns : goal.returns
+pub returns-in_default : goal.returns-in_default
 unfolding piece_at
-returns c = c.list_in.ensures ∙ ap piece_of c.quad_at-q.ensures
+returns-in_default c = c.list_in.ensures ∙ ap piece_of c.quad_at-q.ensures

@@ -1,9 +1,13 @@
--- `stored::put_zeros` meets its contract. The loop's invariant: what is left to store gives the whole overlay.
-use mathlib.Core.Path.{◌∙◌}
+-- `stored::put_zeros` meets its contract.
+use Prim.Native.Nat.{ℕ, ◌-◌}
+use mathlib.Core.Path.{◌≡◌, ap, ◌∙◌}
 use native.Mathlib.Omega.{arith}
-use lib.ListN.{length-set}
-use Rattle.stored.proofs.Words.{blank_more}
+use lib.ListN.{length, take, drop, replicate, length-take, length-drop, length-replicate}
+use Rattle.stored.proofs.Words.{overlay}
 use Rattle.stored.proofs.put_zeros.Goals as goal
 
-pub loop-at-preserved : goal.loop-at-preserved
-loop-at-preserved c = let l = c.loop-at in (omega arith, omega arith, length-set l.words l.at 0 ∙ l.invariant.2, blank_more _ l.words _ l.at _ l.invariant.3 (omega arith))
+pub returns : goal.returns
+returns c =
+    let a = c.args in
+    let n : length (take (a.to - a.from) (drop a.from a.words.now)) ≡ a.to - a.from = simp (length-take, length-drop) (omega arith) in
+    overlay a.words.now c.fill.new.self (replicate (a.to - a.from) 0) a.from (a.to - a.from) (c.fill.ensures.after (λ y e. e) ∙ ap (λ (k : ℕ). replicate k 0) n) (length-replicate (a.to - a.from) 0) (omega arith)

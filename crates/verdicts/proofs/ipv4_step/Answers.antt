@@ -19,6 +19,6 @@ returns-then-met c =
     let a = c.args in
     asked _ _ _ a.met ((let holds_is : Bool = let a = c.args in prefix_matches (V4 a.length a.address) (address_of (packet_at a.packet.now) a.tag) in holds_is)) c.weigh_ipv4-n.ensures c.if-n-eq0.false c.if-met.true (c.ipv4_matches.ensures ∙ ap (prefix_matches (V4 a.length a.address)) c.address_of.ensures)
 
-pub returns : goal.returns
+pub returns-else-met : goal.returns-else-met
 unfolding prefix_step
-returns c = not_asked _ _ _ c.args.met ((let holds_is : Bool = let a = c.args in prefix_matches (V4 a.length a.address) (address_of (packet_at a.packet.now) a.tag) in holds_is)) c.weigh_ipv4-n.ensures c.if-n-eq0.false c.if-met.false
+returns-else-met c = not_asked _ _ _ c.args.met ((let holds_is : Bool = let a = c.args in prefix_matches (V4 a.length a.address) (address_of (packet_at a.packet.now) a.tag) in holds_is)) c.weigh_ipv4-n.ensures c.if-n-eq0.false c.if-met.false

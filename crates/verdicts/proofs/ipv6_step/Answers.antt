@@ -1,10 +1,10 @@
 -- `verdicts::ipv6_step` meets its contract: by its octets, and whether it is asked if the prefix is met.
-use mathlib.Core.Path.{ap, ◌∙◌}
+use mathlib.Core.Path.{ap₂, ◌∙◌}
 use mathlib.Core.Bool.{Bool}
 use Rattle.rules.specs.declared.NetworkPrefix.TheVariants.{Ipv6Offset as V6}
 use Rattle.packets.specs.Packets.{packet_at}
 use Rattle.packets.specs.Shown.{address_of}
-use Rattle.matching.specs.Rules.{prefix_matches}
+use Rattle.matching.specs.Rules.{same_bits, prefix_matches}
 use Rattle.verdicts.specs.Steps.{prefix_step}
 use Rattle.verdicts.proofs.Steps.{not_taken, asked, not_asked}
 use Rattle.verdicts.proofs.ipv6_step.Goals as goal
@@ -17,8 +17,8 @@ pub returns-then-met : goal.returns-then-met
 unfolding prefix_step
 returns-then-met c =
     let a = c.args in
-    asked _ _ _ a.met ((let holds_is : Bool = let a = c.args in prefix_matches (V6 a.length a.offset a.high a.low) (address_of (packet_at a.packet.now) a.tag) in holds_is)) c.weigh_ipv6-n.ensures c.if-n-eq0.false c.if-met.true (c.ipv6_matches.ensures ∙ ap (prefix_matches (V6 a.length a.offset a.high a.low)) c.address_of.ensures)
+    asked _ _ _ a.met ((let holds_is : Bool = let a = c.args in prefix_matches (V6 a.length a.offset a.high a.low) (address_of (packet_at a.packet.now) a.tag) in holds_is)) c.weigh_ipv6-n.ensures c.if-n-eq0.false c.if-met.true (c.ipv6_matches.ensures ∙ ap₂ (same_bits 128 a.offset a.length) c.joined.ensures c.address_of.ensures)
 
-pub returns : goal.returns
+pub returns-else-met : goal.returns-else-met
 unfolding prefix_step
-returns c = not_asked _ _ _ c.args.met ((let holds_is : Bool = let a = c.args in prefix_matches (V6 a.length a.offset a.high a.low) (address_of (packet_at a.packet.now) a.tag) in holds_is)) c.weigh_ipv6-n.ensures c.if-n-eq0.false c.if-met.false
+returns-else-met c = not_asked _ _ _ c.args.met ((let holds_is : Bool = let a = c.args in prefix_matches (V6 a.length a.offset a.high a.low) (address_of (packet_at a.packet.now) a.tag) in holds_is)) c.weigh_ipv6-n.ensures c.if-n-eq0.false c.if-met.false

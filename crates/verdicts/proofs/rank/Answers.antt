@@ -1,21 +1,11 @@
 -- `verdicts::rank` meets its contract: the tests in turn.
-use mathlib.Core.Path.{◌≡◌, sym, ap₂, ◌∙◌}
-use mathlib.Core.Bool.{false}
-use borrow.Author.Tests.{eq-eqb, ne_eqb}
+use mathlib.Core.Path.{sym, ap₂, ◌∙◌}
+use borrow.Author.Tests.{eq-eqb}
 use lib.Dec.{eqb}
-use Rattle.stored.specs.Stored.{family_at}
 use Rattle.ranking.specs.Ranks.{Rankable}
 use Rattle.verdicts.specs.Verdicts.{rank_verdict}
 use Rattle.verdicts.proofs.WellFormed.{rankable}
 use Rattle.verdicts.proofs.rank.Goals as goal
-
-pub returns-then-not-well_formed : goal.returns-then-not-well_formed
-unfolding rank_verdict
-returns-then-not-well_formed c = rw (sym c.well_formed-2.ensures ∙ c.if-not-well_formed.true)
-
-pub returns-then-not-well_formed-2 : goal.returns-then-not-well_formed-2
-unfolding rank_verdict
-returns-then-not-well_formed-2 c = rw ((sym c.well_formed-2.ensures ∙ c.if-not-well_formed.false), sym c.well_formed-3.ensures ∙ c.if-not-well_formed-2.true)
 
 pub family_at-requires : goal.family_at-requires
 family_at-requires c =
@@ -27,13 +17,6 @@ family_at-requires-2 c =
     ((let ready2_is : let g = c.args in Rankable g.words2.now 0 g.values2.now g.octets2.now = let g = c.args in
     rankable g.words2.now g.values2.now g.octets2.now 0 (sym c.well_formed-3.ensures ∙ c.if-not-well_formed-2.false) in ready2_is)).whole
 
-pub returns-then-family_at : goal.returns-then-family_at
-unfolding rank_verdict
-returns-then-family_at c =
-    let g = c.args in
-    let other : eqb (family_at g.words.now 0) (family_at g.words2.now 0) ≡ false = ap₂ eqb (sym c.family_at.ensures) (sym c.family_at-2.ensures) ∙ ne_eqb _ _ c.if-family_at.true in
-    rw ((sym c.well_formed-2.ensures ∙ c.if-not-well_formed.false), (sym c.well_formed-3.ensures ∙ c.if-not-well_formed-2.false), other)
-
 pub same_distinguisher-requires : goal.same_distinguisher-requires
 same_distinguisher-requires c = (
   ((let ready2_is : let g = c.args in Rankable g.words2.now 0 g.values2.now g.octets2.now = let g = c.args in
@@ -41,10 +24,6 @@ same_distinguisher-requires c = (
   ((let ready_is : let g = c.args in Rankable g.words.now 0 g.values.now g.octets.now = let g = c.args in
       rankable g.words.now g.values.now g.octets.now 0 (sym c.well_formed-2.ensures ∙ c.if-not-well_formed.false) in ready_is)).whole,
 )
-
-pub returns-then-not-same_distinguisher : goal.returns-then-not-same_distinguisher
-unfolding rank_verdict
-returns-then-not-same_distinguisher c = rw ((sym c.well_formed-2.ensures ∙ c.if-not-well_formed.false), (sym c.well_formed-3.ensures ∙ c.if-not-well_formed-2.false), (ap₂ eqb (sym c.family_at.ensures) (sym c.family_at-2.ensures) ∙ eq-eqb _ _ c.if-family_at.false), sym c.same_distinguisher.ensures ∙ c.if-not-same_distinguisher.true)
 
 pub compare_rules-order-requires-clause-first : goal.compare_rules-order-requires-clause-first
 compare_rules-order-requires-clause-first c =

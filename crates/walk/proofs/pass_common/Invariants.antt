@@ -3,8 +3,8 @@ use Prim.Native.Nat.{◌-◌, ◌≤◌}
 use Rattle.walk.specs.Turns.{Walking}
 use Rattle.walk.proofs.pass_common.Given as goal
 
-abbrev pub invariant-loop-i : goal.invariant-loop-i
-invariant-loop-i l = Walking l.reading l.s l.stop l.i l.tag l.n × (l.previous ≤ l.tag)
+abbrev pub invariant-loop-passed : goal.invariant-loop-passed
+invariant-loop-passed l = Walking l.reading l.s l.stop l.passed.at l.passed.previous l.passed.operators × (l.fn.from.previous ≤ l.passed.previous)
 
-abbrev pub decreases-loop-i : goal.decreases-loop-i
-decreases-loop-i l = 13 - l.tag
+abbrev pub decreases-loop-passed : goal.decreases-loop-passed
+decreases-loop-passed l = 13 - l.passed.previous

@@ -4,8 +4,8 @@ use Prim.Native.Nat.{◌-◌}
 use Rattle.walk.specs.Turns.{Walking}
 use Rattle.walk.proofs.walk.Given as goal
 
-abbrev pub invariant-loop-at : goal.invariant-loop-at
-invariant-loop-at l = Walking l.reading l.s l.stop l.at l.previous l.operators
+abbrev pub invariant-loop-reading : goal.invariant-loop-reading
+invariant-loop-reading l = Walking l.reading l.s l.stop l.passed.at l.passed.previous l.passed.operators
 
-abbrev pub decreases-loop-at : goal.decreases-loop-at
-decreases-loop-at l = 13 - l.previous
+abbrev pub decreases-loop-reading : goal.decreases-loop-reading
+decreases-loop-reading l = 13 - l.passed.previous
