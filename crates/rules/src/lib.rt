@@ -101,6 +101,21 @@ impl FlowSpecComponent {
         is_bitmask(self.component_type())
     }
 
+    // What the component counts as where a rule is asked for one: 4 or 6 for a family, 1 for nothing, else 0.
+    pub fn counts_as(self) -> u8
+        ensures { result ≡ counts_as self }
+    {
+        match self {
+            FlowSpecComponent::Nothing => 1,
+            FlowSpecComponent::DestinationPrefix(NetworkPrefix::Ipv4 { .. })
+            | FlowSpecComponent::SourcePrefix(NetworkPrefix::Ipv4 { .. }) => 4,
+            FlowSpecComponent::DestinationPrefix(_)
+            | FlowSpecComponent::SourcePrefix(_)
+            | FlowSpecComponent::FlowLabel(_) => 6,
+            _ => 0,
+        }
+    }
+
     pub fn is_nothing(self) -> bool
         ensures { result ≡ eqb (counts_as self) 1 }
     {
@@ -204,6 +219,15 @@ impl FlowSpecNlri {
             .get(place)
             .copied()
             .unwrap_or(FlowSpecComponent::Nothing)
+    }
+
+    // Whether one of the components counts so.
+    pub fn holds(self, mark: u8) -> bool
+        ensures { result ≡ holds_one mark (components_of self) }
+    {
+        self.components()
+            .iter()
+            .any(|component| component.counts_as() == mark)
     }
 
     // Whether one of the components is Nothing, so that it is no rule.
