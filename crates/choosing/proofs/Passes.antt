@@ -37,7 +37,7 @@ all_more f n e h = rw (e, h) refl
 
 -- ---- the best is one of those that were passed
 
-abbrev Below : ℕ → Choice → Type 0
+abbrev pub Below : ℕ → Choice → Type 0
 Below n (place i) = i < n
 Below n none = Unit {0}
 
@@ -47,10 +47,10 @@ better_below t n (place i) false l = omega arith
 better_below t n none true l = omega arith
 better_below t n (place i) true l = by_test (is_before (rank_at t n i)) (λ e. rw e (omega arith)) (λ e. rw e (omega arith))
 
-best_passed : (t : Table) (p : Packet) (n : ℕ) → Below n (best_below t p n)
+pub best_below_lem : (t : Table) (p : Packet) (n : ℕ) → Below n (best_below t p n)
 unfolding best_below
-best_passed t p zero = tt
-best_passed t p (suc n) = better_below t n (best_below t p n) (matches_at t p n) (best_passed t p n)
+best_below_lem t p zero = tt
+best_below_lem t p (suc n) = better_below t n (best_below t p n) (matches_at t p n) (best_below_lem t p n)
 
 -- ---- the pass
 
@@ -62,7 +62,7 @@ module _ (t : Table) (p : Packet) (family : ℕ) where
   module _ (i : ℕ) (f : Found) (h : Finds t p family i f) where
     -- the best so far is one that was passed
     pub best_formed : (b : ℕ) → f.best ≡ Some b → formed_at t b ≡ true
-    best_formed b e = all_below_lem (formed_at t) i h.formed b (subst (Below i) (sym h.best ∙ ap choice_of e) (best_passed t p i))
+    best_formed b e = all_below_lem (formed_at t) i h.formed b (subst (Below i) (sym h.best ∙ ap choice_of e) (best_below_lem t p i))
 
     pub pass_end : (n : ℕ) → i ≤ n → n ≤ i → Finds t p family n f
     pass_end n l m = let e : i ≡ n = omega arith in subst (λ (k : ℕ). Finds t p family k f) e h

@@ -1,6 +1,6 @@
 -- What a refusal carries, by how much it is: two numbers at most, so the four numbers that tell a refusal have all of them.
 use Prim.Native.Nat.{ℕ, zero, suc, ◌≤◌}
-use mathlib.Core.Path.{◌≡◌, refl, ap, ◌∙◌}
+use mathlib.Core.Path.{◌≡◌, refl, ap, ◌∙◌, subst}
 use mathlib.Core.List.{List, [], ◌∷◌, ◌++◌}
 use native.Mathlib.Omega.{arith}
 use lib.ListN.{length}
@@ -11,7 +11,9 @@ use Rattle.refusals.specs.declared.FlowSpecError.{FlowSpecError}
 use Rattle.refusals.specs.declared.FlowSpecError.TheVariants.{InsufficientData, InvalidComponentOrder, InvalidComponentType, InvalidPrefix, InvalidOperator, InvalidValueLength, ValueTooLarge, InputTooLong, NoRoom, BadRecord, BadFamily, TooManyRules, BadPacket, MixedFamily, Outer}
 use Rattle.refusals.specs.Refusals.{number_of, outer_carried, carried_of, numbers_of}
 use Rattle.listing.specs.Texts.{ascii, decimal, commas}
-use Rattle.listing.specs.Puts.{carried_in}
+use Rattle.listing.specs.declared.Page.{Page}
+use Rattle.listing.specs.Puts.{Placeable, carried_in}
+use Rattle.listing.proofs.TextsInTurn.{placeable_first}
 
 outer_most : (e : OuterError) → length (outer_carried e) ≤ 2
 outer_most BadAttribute = omega arith
@@ -59,6 +61,12 @@ module _ (n : Numbers) where
   by_count : (k : ℕ) → n.count ≡ k → carried_in n ≡ carried_in (record { number = n.number; count = k; first = n.first; second = n.second })
   by_count k e = rw e
 
+  pub commas_none : n.count ≡ 0 → commas (carried_in n) ≡ []
+  commas_none e = ap commas (by_count 0 e)
+
+  pub commas_one : n.count ≡ 1 → commas (carried_in n) ≡ decimal n.first
+  commas_one e = ap commas (by_count 1 e)
+
   two_by : (k : ℕ) → n.count ≡ k → (k ≡ 0 → ⊥) → (k ≡ 1 → ⊥) → commas (carried_in n) ≡ decimal n.first ++ ascii "," ++ decimal n.second
   two_by zero e a b = absurd (a refl)
   two_by (suc zero) e a b = absurd (b refl)
@@ -67,3 +75,13 @@ module _ (n : Numbers) where
 
   pub commas_two : (n.count ≡ 0 → ⊥) → (n.count ≡ 1 → ⊥) → commas (carried_in n) ≡ decimal n.first ++ ascii "," ++ decimal n.second
   commas_two a b = two_by n.count refl a b
+
+  first_by : {page : Page} (k : ℕ) → n.count ≡ k → (k ≡ 0 → ⊥) → Placeable page (commas (carried_in n)) → Placeable page (decimal n.first)
+  first_by zero e a r = absurd (a refl)
+  first_by {page} (suc zero) e a r = subst (Placeable page) (commas_one e) r
+  first_by {page} (suc (suc k)) e a r =
+      placeable_first (decimal n.first) (ascii ",")
+      (placeable_first (decimal n.first ++ ascii ",") (decimal n.second) (subst (Placeable page) (two_by (suc (suc k)) e (λ z. omega arith) (λ z. omega arith)) r))
+
+  pub commas_first : {page : Page} → (n.count ≡ 0 → ⊥) → Placeable page (commas (carried_in n)) → Placeable page (decimal n.first)
+  commas_first a r = first_by n.count refl a r

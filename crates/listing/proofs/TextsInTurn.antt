@@ -24,6 +24,9 @@ joins {old} xs ys first second =
       same = second.same ∙ first.same;
     }
 
+pub placeable_first : {page : Page} (xs ys : List ℕ) → Placeable page (xs ++ ys) → Placeable page xs
+placeable_first xs ys r = record { fits = omega (arith, length-append xs ys, r.fits) }
+
 -- with `rest` put on what the page has become, it is as if the whole were put
 pub record Left (old : Page) (whole : List ℕ) (mid : Page) (rest : List ℕ) : Type 0 where
   pub place : mid.at + length rest ≡ old.at + length whole

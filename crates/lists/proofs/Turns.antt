@@ -43,6 +43,33 @@ pub filled_first : {k : Kind} {s vs os : List ℕ} {at n : ℕ} → Filling s at
 filled_first h l =
     record { filling = h; list = refl; values = refl; octets = refl; long_values = refl; long_octets = refl; on = omega arith; within = l }
 
+-- two fills one after the other
+pub filled_on : {k : Kind} {s vs₀ os₀ vs₁ os₁ vs os : List ℕ} {at₀ n₀ at₁ n₁ at n : ℕ}
+    → Filled k s vs₀ os₀ at₀ n₀ vs₁ os₁ at₁ n₁ → Filled k s vs₁ os₁ at₁ n₁ vs os at n → Filled k s vs₀ os₀ at₀ n₀ vs os at n
+filled_on a b =
+    let o = a.on in
+    let p = b.on in
+    record {
+      filling = b.filling;
+      list = a.list ∙ b.list;
+      values = a.values ∙ b.values;
+      octets = a.octets ∙ b.octets;
+      long_values = b.long_values ∙ a.long_values;
+      long_octets = b.long_octets ∙ a.long_octets;
+      on = omega arith;
+      within = b.within;
+    }
+
+-- and one to the list's end
+pub stored_on : {k : Kind} {s vs₀ os₀ vs₁ os₁ vs os : List ℕ} {at₀ n₀ at₁ n₁ : ℕ} {l : Tally}
+    → Filled k s vs₀ os₀ at₀ n₀ vs₁ os₁ at₁ n₁ → Stored k s vs₁ os₁ at₁ n₁ vs os l → Stored k s vs₀ os₀ at₀ n₀ vs os l
+stored_on a b =
+    record {
+      list = b.list ∙ sym a.list;
+      values = b.values ∙ sym a.values;
+      octets = b.octets ∙ sym a.octets;
+    }
+
 -- a run that stops at another code has gone on from one of its own
 pub moved : (s : List ℕ) {at i code : ℕ} → at ≤ i → code ≡ code_in (get_or s at 0) → (code ≡ code_in (get_or s i 0) → ⊥) → at < i
 moved s {at} {i} h e f =

@@ -313,7 +313,7 @@ in_turn_lem false f y g l = refl
 
 module _ (o v m : ℕ) (octet : o < 256) (word : v < 2 ^ 64) (is : m ≡ get_or beyond (code_in o) 0)
     (p w n : ℕ) (octet₂ : p < 256) (word₂ : w < 2 ^ 64) (is₂ : n ≡ get_or beyond (code_in p) 0) where
-  pair_takes : ((eqb (o / 64) 0 && leb 128 p) && eqb (bit_or (bit_and v m) (bit_and w n)) 0) ≡ takes (op o v ∷ op p w ∷ [])
+  pub pair_takes : ((eqb (o / 64) 0 && leb 128 p) && eqb (bit_or (bit_and v m) (bit_and w n)) 0) ≡ takes (op o v ∷ op p w ∷ [])
   unfolding takes ends
   pair_takes =
       ap₂ (λ x y. (x && leb 128 p) && y) (unmarked o octet) (or_none (bit_and v m) (bit_and w n) ∙ ap₂ ◌&&◌ (alone_fits o v m octet word is) (alone_fits p w n octet₂ word₂ is₂))
@@ -326,7 +326,7 @@ not_leb a b =
     (λ e. rw (e, le-ltb b a (leb-true a b e)))
     (λ e. rw (e, lt-ltb b a (leb-false a b e)))
 
-pair_wide : (t o p v w : ℕ) → leb (codes_by t) (bit_or (code_in o) (code_in p)) ≡ not (narrow (codes_by t) (op o v ∷ op p w ∷ []))
+pub pair_wide : (t o p v w : ℕ) → leb (codes_by t) (bit_or (code_in o) (code_in p)) ≡ not (narrow (codes_by t) (op o v ∷ op p w ∷ []))
 unfolding narrow
 pair_wide t o p v w =
     let c = codes_by t in

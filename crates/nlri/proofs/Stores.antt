@@ -26,8 +26,12 @@ stored_whole ws p t m at r h k out tail e =
     ∙ rule_distinguished ws at r.family r.first ps (omega (arith, n)) r.distinguisher
 
 -- what was stored is what is read
-pub read_back : (ws m : List ℕ) (place : ℕ) (r : FlowSpecNlri) → r.count ≤ 13 → 13 ≤ length r.slots → FitAll (stored_of r).pieces → r.family < 256 → place < length ws / 64
+pub read_back : (ws m : List ℕ) (place : ℕ) (r : FlowSpecNlri) → r.count ≤ 13 → length (stored_of r).pieces ≡ r.count → FitAll (stored_of r).pieces → r.family < 256 → place < length ws / 64
     → m ≡ sets ws (64 * place) (rule_words (stored_of r).pieces (stored_of r).head) → rule_at m place ≡ accepts (stored_of r)
-read_back ws m place r h k fit octet l e =
-    let n : length (stored_of r).pieces ≡ r.count = length_pieces_in r.count r.slots (omega arith) in
-    ap (λ (x : List ℕ). rule_at x place) e ∙ put_read (stored_of r).pieces (stored_of r).head (omega (arith, n)) fit octet ws place l
+read_back ws m place r h n fit octet l e =
+    ap (λ (x : List ℕ). rule_at x place) e ∙ put_read (stored_of r).pieces (stored_of r).head (omega arith) fit octet ws place l
+
+-- the same of the thirteen places that a rule has
+pub stored_back : (ws m : List ℕ) (place : ℕ) (r : FlowSpecNlri) → r.count ≤ 13 → 13 ≤ length r.slots → FitAll (stored_of r).pieces → r.family < 256 → place < length ws / 64
+    → m ≡ sets ws (64 * place) (rule_words (stored_of r).pieces (stored_of r).head) → rule_at m place ≡ accepts (stored_of r)
+stored_back ws m place r h k fit octet l e = read_back ws m place r h (length_pieces_in r.count r.slots (omega arith)) fit octet l e

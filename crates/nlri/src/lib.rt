@@ -110,7 +110,7 @@ fn put_slots(words: &mut [u64], base: usize, components: &[FlowSpecComponent])
 
 // A rule to a place of a lent list. The places needed are one more than the place; of the last place that a usize can name, the place itself.
 // What was stored is what is read there.
-#[tactic(auto, unfolding(crate::specs::Nlri::store_answer, crate::specs::Nlri::store_into), using(crate::proofs::Stores::stored_whole, crate::proofs::Stores::read_back))]
+#[tactic(auto, unfolding(crate::specs::Nlri::store_answer, crate::specs::Nlri::store_into), using(crate::proofs::Stores::stored_whole, crate::proofs::Stores::stored_back))]
 pub fn put_rule(words: &mut [u64], place: usize, rule: FlowSpecNlri) -> Result<(), Fault>
     ensures told { answered result ≡ store_answer words.old place rule }
     ensures words { words.new ≡ store_into words.old place rule }

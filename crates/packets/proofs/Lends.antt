@@ -1,14 +1,21 @@
 -- The packet of some words by the tests that the code makes: the ranges by words, and what words in range lend.
-use Prim.Native.Nat.{ℕ}
+use Prim.Native.Nat.{ℕ, zero, suc}
 use mathlib.Core.Path.{◌≡◌, refl, sym, ◌∙◌, ap}
 use mathlib.Core.Bool.{Bool, true, false, ◌&&◌, false≢true}
 use mathlib.Core.List.{List}
 use lib.ListN.{length, get_or}
-use lib.Dec.{leb, eqb}
-use borrow.Author.Tests.{eq-eqb, ne_eqb, eqb-true, eqb-false}
+use native.Mathlib.Omega.{arith}
+use lib.Dec.{ltb, leb, eqb}
+use borrow.Author.Tests.{le-ltb, eq-eqb, ne_eqb, eqb-true, eqb-false}
 use Rattle.ground.specs.Picks.{pick}
 use Rattle.ground.proofs.Cases.{by_test}
+use Rattle.wide.specs.Numbers.{wide}
 use Rattle.packets.specs.Packets.{Packet, address_fits, pair_fits, field_fits, label_fits, most_flags, family_ok, packet_ok, flags_ok, no_packet, packet_of, packet_at}
+
+-- a number of two halves is below 2 ^ 32 if the upper is 0 and the lower is
+pub narrow : (h l : ℕ) → eqb h 0 && ltb l 4294967296 ≡ ltb (wide h l) 4294967296
+narrow zero l = let e : wide 0 l ≡ l = omega arith in rw e
+narrow (suc h) l = rw (ne_eqb (suc h) 0 (λ e. omega (arith, e))) (sym (le-ltb (wide (suc h) l) 4294967296 (omega arith)))
 
 pub no_packet_lem : packet_ok no_packet ≡ false
 unfolding packet_ok

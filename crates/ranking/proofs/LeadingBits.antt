@@ -146,6 +146,25 @@ whole_bits a b r n s h (above l) =
     low_above a b l
     ∙ sym (low_above (leading_bits n a) (leading_bits n b) (omega (arith, differ a b r n s h (λ e. omega arith), shr_mono {a = b} {b = a} (128 - n) (omega arith))))
 
+-- the order of two addresses by their halves
+lows' : (h a b : ℕ) → Way a b → lower a b ≡ lower (wide h a) (wide h b)
+lows' h a b (below l) = low_below a b l ∙ sym (low_below (wide h a) (wide h b) (omega arith))
+lows' h a b (equal e) = low_equal a b e ∙ sym (low_equal (wide h a) (wide h b) (omega arith))
+lows' h a b (above l) = low_above a b l ∙ sym (low_above (wide h a) (wide h b) (omega arith))
+
+highs' : (ah al bh bl : ℕ) → al < 2 ^ 64 → bl < 2 ^ 64 → (ah ≡ bh → ⊥) → Way ah bh → lower ah bh ≡ lower (wide ah al) (wide bh bl)
+highs' ah al bh bl p q d (below l) = low_below ah bh l ∙ sym (low_below (wide ah al) (wide bh bl) (omega arith))
+highs' ah al bh bl p q d (equal e) = absurd (d e)
+highs' ah al bh bl p q d (above l) = low_above ah bh l ∙ sym (low_above (wide ah al) (wide bh bl) (omega arith))
+
+module _ (ah al bh bl r n : ℕ) (s : Shares 128 (wide ah al) (wide bh bl) r) (h : r < n) where
+  pub by_lows : ah ≡ bh → lower al bl ≡ lower (leading_bits n (wide ah al)) (leading_bits n (wide bh bl))
+  by_lows e = lows' ah al bl (way al bl) ∙ ap (λ (x : ℕ). lower (wide ah al) (wide x bl)) e ∙ whole_bits (wide ah al) (wide bh bl) r n s h (way _ _)
+
+  pub by_highs : al < 2 ^ 64 → bl < 2 ^ 64 → (ah ≡ bh → ⊥) → lower ah bh ≡ lower (leading_bits n (wide ah al)) (leading_bits n (wide bh bl))
+  by_highs p q d = highs' ah al bh bl p q d (way ah bh) ∙ whole_bits (wide ah al) (wide bh bl) r n s h (way _ _)
+
+-- and of the numbers
 pub bits_differ : (a b r n : ℕ) → Shares 128 a b r → r < n → lower a b ≡ lower (leading_bits n a) (leading_bits n b)
 bits_differ a b r n s h = whole_bits a b r n s h (way a b)
 

@@ -1,6 +1,6 @@
 -- Words that are all 0: their bits joined are 0.
-use Prim.Native.Nat.{ℕ, zero, suc, ◌+◌, ◌-◌, ◌*◌, ◌≤◌}
-use mathlib.Core.Path.{◌≡◌, sym, ap, ◌∙◌}
+use Prim.Native.Nat.{ℕ, zero, suc, ◌+◌, ◌-◌, ◌*◌, ◌≤◌, ◌<◌}
+use mathlib.Core.Path.{◌≡◌, sym, ap, ap₂, ◌∙◌}
 use mathlib.Core.Bool.{Bool, ◌&&◌, and-true}
 use mathlib.Core.List.{List}
 use native.Mathlib.Numerals.{add-one}
@@ -48,3 +48,48 @@ zeros_joined k ws at h = scanned k ws at 0 h
 pub unused_joined : (ws : List ℕ) (base count at r : ℕ) → base + 4 * count ≡ at → count ≤ 13 → base + 64 ≤ length ws → r ≡ fold bit_or 0 (take (base + 52 - at) (drop at ws))
     → zeros_from (base + 52 - (base + 4 * count)) ws (base + 4 * count) ≡ eqb r 0
 unused_joined ws base count at r e few h f = ap (λ (j : ℕ). zeros_from (base + 52 - j) ws j) e ∙ zeros_joined (base + 52 - at) ws at (omega arith) ∙ ap (λ (x : ℕ). eqb x 0) (sym f)
+
+-- words one by one up to a place
+module _ (ws : List ℕ) (sum at to : ℕ) where
+  pub scan_more : at < to → (eqb sum 0 && zeros_from (to - at) ws at) ≡ (eqb (bit_or sum (get_or ws at 0)) 0 && zeros_from (to - (at + 1)) ws (at + 1))
+  unfolding zeros_from
+  scan_more h =
+      let e : to - at ≡ suc (to - (at + 1)) = omega arith in
+      ap (λ (k : ℕ). eqb sum 0 && zeros_from k ws at) e
+      ∙ sym (ap (λ t. t && zeros_from (to - (at + 1)) ws (at + 1)) (or_none sum (get_or ws at 0)) ∙ and_assoc (eqb sum 0) (eqb (get_or ws at 0) 0) (zeros_from (to - (at + 1)) ws (at + 1)))
+
+  pub scan_end : to ≤ at → (eqb sum 0 && zeros_from (to - at) ws at) ≡ eqb sum 0
+  unfolding zeros_from
+  scan_end h = let e : to - at ≡ 0 = omega arith in ap (λ (k : ℕ). eqb sum 0 && zeros_from k ws at) e ∙ and-true (eqb sum 0)
+
+-- a group of four words
+module _ (ws : List ℕ) (at to : ℕ) where
+  step : (sum k next : ℕ) → at + k + 1 ≡ next → at + k < to → (eqb sum 0 && zeros_from (to - (at + k)) ws (at + k)) ≡ (eqb (bit_or sum (get_or ws (at + k) 0)) 0 && zeros_from (to - next) ws next)
+  step sum k next e h = scan_more ws sum (at + k) to h ∙ ap (λ (j : ℕ). eqb (bit_or sum (get_or ws (at + k) 0)) 0 && zeros_from (to - j) ws j) e
+
+  pub scan_four : (sum next : ℕ) → at + 4 ≡ next → next ≤ to
+      → (eqb sum 0 && zeros_from (to - at) ws at)
+      ≡ (eqb (bit_or (bit_or (bit_or (bit_or sum (get_or ws at 0)) (get_or ws (at + 1) 0)) (get_or ws (at + 2) 0)) (get_or ws (at + 3) 0)) 0 && zeros_from (to - next) ws next)
+  scan_four sum next e h =
+      scan_more ws sum at to (omega arith)
+      ∙ step (bit_or sum (get_or ws at 0)) 1 (at + 2) (omega arith) (omega arith)
+      ∙ step (bit_or (bit_or sum (get_or ws at 0)) (get_or ws (at + 1) 0)) 2 (at + 3) (omega arith) (omega arith)
+      ∙ step (bit_or (bit_or (bit_or sum (get_or ws at 0)) (get_or ws (at + 1) 0)) (get_or ws (at + 2) 0)) 3 next (omega arith) (omega arith)
+
+-- the last seven words of a rule: three, and a group
+pub last_seven : (ws : List ℕ) (base r : ℕ) → zeros_from (base + 4 * 16 - (base + 4 * 15)) ws (base + 4 * 15) ≡ eqb r 0
+    → zeros_from 7 ws (base + 57) ≡ eqb (bit_or (bit_or (bit_or (get_or ws (base + 57) 0) (get_or ws (base + 58) 0)) (get_or ws (base + 59) 0)) r) 0
+unfolding zeros_from
+last_seven ws base r e =
+    let a = get_or ws (base + 57) 0 in
+    let b = get_or ws (base + 58) 0 in
+    let c = get_or ws (base + 59) 0 in
+    let n : 4 ≡ base + 4 * 16 - (base + 4 * 15) = omega arith in
+    let p : base + 57 + 1 ≡ base + 58 = omega arith in
+    let q : base + 58 + 1 ≡ base + 59 = omega arith in
+    let o : base + 59 + 1 ≡ base + 4 * 15 = omega arith in
+    let g : zeros_from 4 ws (base + 59 + 1) ≡ eqb r 0 = ap₂ (λ (k j : ℕ). zeros_from k ws j) n o ∙ e in
+    ap (λ (j : ℕ). eqb a 0 && zeros_from 6 ws j) p ∙ ap (λ (j : ℕ). eqb a 0 && (eqb b 0 && zeros_from 5 ws j)) q
+    ∙ ap (λ (t : Bool). eqb a 0 && (eqb b 0 && (eqb c 0 && t))) g
+    ∙ sym (or_none (bit_or (bit_or a b) c) r ∙ ap (λ (t : Bool). t && eqb r 0) (or_none (bit_or a b) c ∙ ap (λ (t : Bool). t && eqb c 0) (or_none a b))
+    ∙ and_assoc (eqb a 0 && eqb b 0) (eqb c 0) (eqb r 0) ∙ and_assoc (eqb a 0) (eqb b 0) (eqb c 0 && eqb r 0))

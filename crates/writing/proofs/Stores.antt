@@ -1,5 +1,5 @@
 -- What is stored of a prefix and of a piece.
-use Prim.Native.Nat.{ℕ, suc, ◌+◌, ◌-◌, ◌*◌, ◌/◌, ◌^◌, ◌≤◌}
+use Prim.Native.Nat.{ℕ, zero, suc, ◌+◌, ◌-◌, ◌*◌, ◌/◌, ◌^◌, ◌≤◌}
 use mathlib.Core.Path.{◌≡◌, refl, sym, ap, ap₂, ◌∙◌}
 use mathlib.Core.Bool.{true, false≢true}
 use mathlib.Core.List.{List, ◌∷◌, ◌++◌}
@@ -40,6 +40,13 @@ high_three l at v {m} {r} e f =
     f ∙ ap₂ (λ (x : List ℕ) (n : ℕ). sets x (at + n) (spelled 1 (v / 256))) e (sym (length_spelled 2 (v / 65536)))
     ∙ sym (sets_append l at (spelled 2 (v / 65536)) (spelled 1 (v / 256)))
     ∙ ap (λ (x : List ℕ). sets l at x) (sym p)
+
+pub four : (k : ℕ) → k ≤ 4 → (k ≡ 0 → ⊥) → (k ≡ 1 → ⊥) → (k ≡ 2 → ⊥) → (k ≡ 3 → ⊥) → 4 ≡ k
+four zero h a b c d = absurd (a refl)
+four (suc zero) h a b c d = absurd (b refl)
+four (suc (suc zero)) h a b c d = absurd (c refl)
+four (suc (suc (suc zero))) h a b c d = absurd (d refl)
+four (suc (suc (suc (suc k)))) h a b c d = omega arith
 
 -- an IPv4 prefix that a writing takes
 taken_ipv4 : (w : Reading) (len a : ℕ) → prefix_taken w (V4 len a) ≡ true → len ≤ 32

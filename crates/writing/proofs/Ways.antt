@@ -3,13 +3,13 @@
 use Prim.Native.Nat.{ℕ, ◌+◌, ◌*◌, ◌/◌, ◌≤◌, ◌<◌}
 use mathlib.Core.Path.{◌≡◌, refl, sym, ap, ap₂, ◌∙◌}
 use mathlib.Core.Bool.{true, false}
-use mathlib.Core.List.{List, [], ◌++◌}
+use mathlib.Core.List.{List, [], ◌∷◌, ◌++◌}
 use native.Mathlib.Omega.{arith}
-use borrow.Author.Tests.{le-ltb}
+use borrow.Author.Tests.{lt-ltb, le-ltb}
 use lib.Dec.{ltb}
 use lib.ListN.{length, length-append}
 use lib.Seq.{sets}
-use Rattle.ground.specs.Answers.{Answer, accepts, refuses, declines}
+use Rattle.ground.specs.Answers.{Refused, Answer, accepts, refuses, declines}
 use Rattle.ground.proofs.Answers.{never}
 use Rattle.ground.proofs.Cases.{by_test}
 use Rattle.ground.proofs.Overlays.{sets_append}
@@ -111,6 +111,33 @@ Writes a out told left = (told ≡ counted a) × (left ≡ sets out 0 (octets_in
 
 pub carried : {a b : Answer (List ℕ)} (out : List ℕ) {told : Answer ℕ} {left : List ℕ} → a ≡ b → Writes a out told left → Writes b out told left
 carried out e h = (h.0 ∙ ap counted e, h.1 ∙ ap (λ x. sets out 0 (octets_in x)) e)
+
+-- a refusal is the same of whatever would have been accepted, and stays
+refused_as : (a : Answer (List ℕ)) (f : Refused) → declines f ≡ counted a → a ≡ declines f
+refused_as (accepts xs) f e = let z : ◌≡◌ {A = ℕ} 0 1 = cc in absurd (omega arith)
+refused_as (declines g) f e = let s : f ≡ g = cc in ap declines (sym s)
+
+pub refused : (a : Answer (List ℕ)) (out : List ℕ) (g : List ℕ → Answer (List ℕ)) (f : Refused) → declines f ≡ counted a → Writes (on_accepted a g) out (declines f) out
+refused a out g f e = let s = refused_as a f e in rw s (refl, refl)
+
+module _ (a : Answer (List ℕ)) (out : List ℕ) (n : ℕ) (told : accepts n ≡ counted a) where
+  is_octets : a ≡ accepts (octets_in a)
+  is_octets = (has_octets a n (sym told)).0
+
+  long : length (nlri_octets (octets_in a)) ≡ length (length_octets n) + n
+  long = let e = (has_octets a n (sym told)).1 in whole_long (octets_in a) ∙ ap (λ (j : ℕ). length (length_octets j) + j) e
+
+  pub no_room : (size : ℕ) → size ≡ length (length_octets n) + n → length out < size → Writes (on_accepted a (in_room (length out))) out (refuses 9 (size ∷ [])) out
+  no_room size is h =
+      let r : length out < length (nlri_octets (octets_in a)) = omega (arith, long) in
+      let s : length (nlri_octets (octets_in a)) ≡ size = long ∙ sym is in
+      carried out (sym (ap (λ x. on_accepted x (in_room (length out))) is_octets)) (rw (lt-ltb (length out) (length (nlri_octets (octets_in a))) r, s) (refl, refl))
+
+  pub in_room_lem : (size : ℕ) → size ≡ length (length_octets n) + n → size ≤ length out → {o : List ℕ} → o ≡ sets out 0 (nlri_octets (octets_in a)) → Writes (on_accepted a (in_room (length out))) out (accepts size) o
+  in_room_lem size is h {o} e =
+      let r : length (nlri_octets (octets_in a)) ≤ length out = omega (arith, long) in
+      let s : size ≡ length (nlri_octets (octets_in a)) = is ∙ sym long in
+      carried out (sym (ap (λ x. on_accepted x (in_room (length out))) is_octets)) (rw (le-ltb (length out) (length (nlri_octets (octets_in a))) r) (ap accepts s, e))
 
 -- what was measured
 module _ (w : Reading) (ws values octets : List ℕ) (n : ℕ) (told : accepts n ≡ counted (body_from w ws values octets)) where
