@@ -1,6 +1,6 @@
--- `octets::put` meets its contract: a part that is copied over is an overlay.
-use Rattle.octets.proofs.Spells.{put_part}
+-- `octets::put` meets its contract: the library's octets of a number, from the N-th last on.
+use Rattle.octets.proofs.Spells.{put_last}
 use Rattle.octets.proofs.put.Goals as goal
 
 pub returns : goal.returns
-returns g c = put_part c.args.out.now c.args.octets c.args.at g.row.N c.requires c.copy_from_slice.ensures.len c.copy_from_slice.ensures.after
+returns g c = put_last g.row.N c.args.out.now c.args.at c.args.value c.requires.1 c.requires.0 c.to_be_bytes.ensures c.copy_from_slice.ensures.after
